@@ -5,3 +5,4 @@ mod Middles
 mod QuietSpans
 mod Guards
 mod Bounds
+mod SpanWords

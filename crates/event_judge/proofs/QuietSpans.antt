@@ -33,18 +33,18 @@ span_is_read span bit small = omega (arith, small)
 last_bit : (span bit : ℕ) → bit < 2 → (span * 2 + bit) % 2 ≡ bit
 last_bit span bit small = omega (arith, small)
 
-pub kept : (s : Search) (offset width span bit : ℕ) (sign : Sign) → IsWordOf span offset width → bit ≡ bit_of sign → HasSign s (time_of s offset) (time_of s (offset + width)) sign
+pub kept : (s : Search) (offset width span bit : ℕ) (sign : Sign) → IsWordOf span offset width → bit ≡ bit_of sign → LiesInQuiet s (time_of s offset) (time_of s (offset + width)) sign
     → KeepsQuiet s (span * 2 + bit)
 kept s offset width span bit sign word coded quiet some =
     let small : bit < 2 = subst (λ (n : ℕ). n < 2) (sym coded) (few sign) in
     let whole : span_in (span * 2 + bit) ≡ span = span_is_read span bit small in
     let begins : offset ≡ offset_in (span_in (span * 2 + bit)) = sym (ap offset_in whole ∙ word.begins) in
     let wide : width ≡ width_in (span_in (span * 2 + bit)) = sym (ap width_in whole ∙ word.wide) in
-    let known : is_known sign ≡ true = subst (λ (sign : Sign). is_known sign ≡ true) quiet.has quiet.quiet.known in
+    let known : is_known sign ≡ true = subst (λ (sign : Sign). is_known sign ≡ true) quiet.quiet.has quiet.quiet.quiet.known in
     let read : sign ≡ sign_in (span * 2 + bit) = sym (ap sign_of_bit (last_bit span bit small ∙ coded) ∙ bit_is_read sign known) in
-    subst (λ (o : ℕ). HasSign s (time_of s o) (time_of s (o + width_in (span_in (span * 2 + bit)))) (sign_in (span * 2 + bit))) begins
-    (subst (λ (w : ℕ). HasSign s (time_of s offset) (time_of s (offset + w)) (sign_in (span * 2 + bit))) wide
-    (subst (λ (sign : Sign). HasSign s (time_of s offset) (time_of s (offset + width)) sign) read quiet))
+    subst (λ (o : ℕ). LiesInQuiet s (time_of s o) (time_of s (o + width_in (span_in (span * 2 + bit)))) (sign_in (span * 2 + bit))) begins
+    (subst (λ (w : ℕ). LiesInQuiet s (time_of s offset) (time_of s (offset + w)) (sign_in (span * 2 + bit))) wide
+    (subst (λ (sign : Sign). LiesInQuiet s (time_of s offset) (time_of s (offset + width)) sign) read quiet))
 
 -- ---- by the law on quiet spans
 abbrev pub TellsSigns : Type 0

@@ -1,5 +1,5 @@
 -- What a judge remembers of a search, in words: the sign of the function at a time, and a steady span.
-use Rattle.std.specs.Prelude.{◌≡◌, ℕ, ◌+◌, ◌*◌, ◌^◌, ◌/◌, ◌%◌, ◌<◌, ◌≤◌, ℤ, pos, neg_ℤ, ◌+ℤ◌, ◌*ℤ◌, ◌≤ℤ◌}
+use Rattle.std.specs.Prelude.{◌≡◌, ℕ, zero, suc, ◌+◌, ◌*◌, ◌^◌, ◌/◌, ◌%◌, ◌<◌, ◌≤◌, ℤ, pos, neg_ℤ, ◌+ℤ◌, ◌*ℤ◌, ◌≤ℤ◌}
 use Rattle.spec_intervals.specs.declared.signs.Sign.{Sign}
 use Rattle.spec_intervals.specs.declared.signs.Sign.TheVariants.{Yes, No, Open}
 use Rattle.spec_searches.specs.Search.{Search}
@@ -28,15 +28,20 @@ KeepsSign s word = (t : ℤ) (sign : Sign) → pos word ≡ sign_word t sign →
 abbrev pub time_of : Search → ℕ → ℤ
 time_of s offset = s.view.ephemeris.start +ℤ pos offset
 
--- the word for a span; 0 is none
-abbrev pub span_word : ℕ → ℕ → ℕ
-span_word offset width = offset * 2 ^ 22 + width
+-- a width of so many units: of one time, or of 2^14 times
+abbrev pub width_of : ℕ → ℕ → ℕ
+width_of units zero = units
+width_of units (suc n) = units * 2 ^ 14
+
+-- the word for a span: when it begins, fewer than 2^18 units of its width, and last which units these are; 0 is none
+abbrev pub span_word : ℕ → ℕ → ℕ → ℕ
+span_word offset units scale = (offset * 2 ^ 18 + units) * 2 + scale
 
 abbrev pub offset_in : ℕ → ℕ
-offset_in word = word / 2 ^ 22
+offset_in word = word / 2 / 2 ^ 18
 
 abbrev pub width_in : ℕ → ℕ
-width_in word = word % 2 ^ 22
+width_in word = width_of (word / 2 % 2 ^ 18) (word % 2)
 
 -- the word is that for the span
 pub record IsWordOf (word offset width : ℕ) : Type 0 where
@@ -49,10 +54,6 @@ pub record LiesInSpan (word first last : ℕ) : Type 0 where
   pub from : offset_in word ≤ first
   pub upto : last ≤ offset_in word + width_in word
 
--- where it is the word for a span with some width, the span is steady
-abbrev pub KeepsSpan : Search → ℕ → Type 0
-KeepsSpan s word = 0 < width_in word → IsSteady s (time_of s (offset_in word)) (time_of s (offset_in word + width_in word))
-
 -- the times from a to b lie within a steady span
 pub record LiesInSteady (s : Search) (a b : ℤ) : Type 0 where
   pub first : ℤ
@@ -60,3 +61,7 @@ pub record LiesInSteady (s : Search) (a b : ℤ) : Type 0 where
   pub steady : IsSteady s first last
   pub from : first ≤ℤ a
   pub upto : b ≤ℤ last
+
+-- where it is the word for a span with some width, that lies within a steady one
+abbrev pub KeepsSpan : Search → ℕ → Type 0
+KeepsSpan s word = 0 < width_in word → LiesInSteady s (time_of s (offset_in word)) (time_of s (offset_in word + width_in word))

@@ -37,8 +37,8 @@ sign_of_bit zero = Yes
 sign_of_bit (suc n) = No
 
 -- the word for a quiet span, whose other bits are the word for the span; 0 is none
-abbrev pub quiet_word : ℕ → ℕ → Sign → ℕ
-quiet_word offset width sign = span_word offset width * 2 + bit_of sign
+abbrev pub quiet_word : ℕ → ℕ → ℕ → Sign → ℕ
+quiet_word offset units scale sign = span_word offset units scale * 2 + bit_of sign
 
 abbrev pub span_in : ℕ → ℕ
 span_in word = word / 2
@@ -46,7 +46,7 @@ span_in word = word / 2
 abbrev pub sign_in : ℕ → Sign
 sign_in word = sign_of_bit (word % 2)
 
--- where it is the word for a span with some width, the span is quiet and has the sign
+-- where it is the word for a span with some width, that lies within a quiet one with the sign
 abbrev pub KeepsQuiet : Search → ℕ → Type 0
 KeepsQuiet s word = 0 < width_in (span_in word)
-    → HasSign s (time_of s (offset_in (span_in word))) (time_of s (offset_in (span_in word) + width_in (span_in word))) (sign_in word)
+    → LiesInQuiet s (time_of s (offset_in (span_in word))) (time_of s (offset_in (span_in word) + width_in (span_in word))) (sign_in word)

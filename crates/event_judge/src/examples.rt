@@ -15,23 +15,26 @@ pub fn words_of_signs()
     ensures first { sign_word (minus 1125899906842624) Yes ≡ pos 4503599627370497 }
 {}
 
-/// The word for a span of 3 times that begins 5 times after the first of all; it is read as it was written, and the word 0
-/// is for none.
+/// The words for spans of 3 times, and of 3 units of 2^14 times, that begin 5 times after the first of all; they are read as
+/// they were written, and the word 0 is for none.
 pub fn words_of_spans()
-    ensures word { span_word 5 3 ≡ 20971523 }
-    ensures offset { offset_in 20971523 ≡ 5 }
-    ensures width { width_in 20971523 ≡ 3 }
+    ensures word { span_word 5 3 0 ≡ 2621446 }
+    ensures offset { offset_in 2621446 ≡ 5 }
+    ensures width { width_in 2621446 ≡ 3 }
+    ensures wide { span_word 5 3 1 ≡ 2621447 }
+    ensures offset_of_wide { offset_in 2621447 ≡ 5 }
+    ensures width_of_wide { width_in 2621447 ≡ 49152 }
     ensures none { width_in 0 ≡ 0 }
 {}
 
 /// The words for a quiet span of 3 times that begins 5 times after the first of all, with each of the two signs that are known;
 /// the span and the sign are read as they were written, and the word 0 is for no span.
 pub fn words_of_quiet_spans()
-    ensures yes { quiet_word 5 3 Yes ≡ 41943046 }
-    ensures no { quiet_word 5 3 No ≡ 41943047 }
-    ensures span_of_yes { span_in 41943046 ≡ 20971523 }
-    ensures span_of_no { span_in 41943047 ≡ 20971523 }
-    ensures sign_of_yes { sign_in 41943046 ≡ Yes }
-    ensures sign_of_no { sign_in 41943047 ≡ No }
+    ensures yes { quiet_word 5 3 0 Yes ≡ 5242892 }
+    ensures no { quiet_word 5 3 0 No ≡ 5242893 }
+    ensures span_of_yes { span_in 5242892 ≡ 2621446 }
+    ensures span_of_no { span_in 5242893 ≡ 2621446 }
+    ensures sign_of_yes { sign_in 5242892 ≡ Yes }
+    ensures sign_of_no { sign_in 5242893 ≡ No }
     ensures none { width_in (span_in 0) ≡ 0 }
 {}

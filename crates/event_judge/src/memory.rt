@@ -7,7 +7,7 @@ ghost use Rattle.event_judge.specs.Quiet.{HasSign, KeepsQuiet, LiesInQuiet};
 use crate::naming::Naming;
 use crate::quiet_words::{OfQuiet, keep_quiet, no_quiet, quiet_kept, quiet_word};
 use crate::sign_words::{OfSign, keep_sign, no_sign, sign_kept};
-use crate::span_words::{OfSpan, keep_span, lies_in_span, no_span};
+use crate::span_words::{OfSpan, keep_span, kept_width, lies_in_span, no_span};
 use crate::tries::Tries;
 use ival_core::Sign;
 use std::alloc::{AllocError, Global};
@@ -17,17 +17,18 @@ use std::sync::atomic::{AtomicIn, AtomicU64};
 /// How many signs are kept.
 const SIGNS: usize = 256;
 
-/// How many steady spans are kept.
+/// How many steady spans are kept, each by two words: one that begins with it, and one that ends with it.
 const SPANS: usize = 8;
 
-/// How many words for quiet spans are kept, of which each span takes two.
+/// How many words for quiet spans are kept, of which each span takes two: one that begins with it, and one that ends with it.
 const QUIETS: usize = 256;
 
 /// An odd number by which the places of words are spread.
 const SPREAD: u64 = 0x9E37_79B9_7F4A_7C15;
 
 /// What is remembered of a search: the sign of its function at some times, and some steady and some quiet spans. What is kept
-/// later may take the place of what was kept before.
+/// later may take the place of what was kept before. A wide span may be too wide by less than a unit for one word: then it is
+/// kept as two, which lie over one another, so that each of its halves lies in one of them.
 #[derive(Drop)]
 pub(crate) struct Memory<N: Naming> {
     signs: Vec<AtomicIn<OfSign<N>>>,
@@ -38,6 +39,8 @@ pub(crate) struct Memory<N: Naming> {
     quiets: Vec<AtomicIn<OfQuiet<N>>>,
     /// Whether it is worth trying to find a quiet span.
     pub(crate) tries: Tries,
+    /// 1 where the last node that was judged by its enclosure had a turn between its ends, else 0. No answer rests on it.
+    turned: AtomicU64,
 }
 
 // Words that know no sign.
@@ -51,8 +54,8 @@ fn no_signs<N: Naming>(alloc: Global) -> Result<Vec<AtomicIn<OfSign<N>>>, AllocE
 
 // Words that know no span.
 fn no_spans<N: Naming>(alloc: Global) -> Result<Vec<AtomicIn<OfSpan<N>>>, AllocError> {
-    let mut words = Vec::with_capacity(alloc, SPANS)?;
-    for _ in 0..SPANS {
+    let mut words = Vec::with_capacity(alloc, 2 * SPANS)?;
+    for _ in 0..2 * SPANS {
         words.push(no_span::<N>())?;
     }
     Ok(words)
@@ -82,6 +85,7 @@ impl<N: Naming> Memory<N> {
             widest: AtomicU64::new(u64::MAX),
             quiets: no_quiets::<N>(alloc)?,
             tries: Tries::new(),
+            turned: AtomicU64::new(0),
         })
     }
 
@@ -122,6 +126,16 @@ impl<N: Naming> Memory<N> {
         false
     }
 
+    /// Whether it is likely that the next node of which nothing is remembered has a turn between its ends.
+    pub(crate) fn expects_turn(&self) -> bool {
+        self.turned.load(SeqCst) == 1
+    }
+
+    /// Keeps whether such a node had one.
+    pub(crate) fn keep_turn(&self, turns: bool) {
+        self.turned.store(u64::from(turns), SeqCst);
+    }
+
     /// Whether a node of some width is to be tried, whether it is a steady span. Where it is too wide, somewhat wider nodes are
     /// tried from now on, so that the widths of later spans can be found again.
     pub(crate) fn is_worth_trying(&self, width: u64) -> bool {
@@ -145,6 +159,18 @@ impl<N: Naming> Memory<N> {
         self.widest.store(widest, SeqCst);
     }
 
+    // Remembers at a place that the search is steady over `width` times from the one that is `offset` times after the first of
+    // the ephemeris.
+    #[inline(always)]
+    fn keep_part(&self, place: usize, offset: u64, width: u64)
+        requires { LiesInSteady N.search (time_of N.search offset)
+            (time_of N.search (offset + width)) }
+    {
+        if let Some(word) = self.spans.get(place) {
+            keep_span::<N>(word, offset, width);
+        }
+    }
+
     /// Remembers that the search is steady over `width` times from the one that is `offset` times after the first of the
     /// ephemeris. Nothing is promised: the span may take the place of another, and one too wide or too late for a word is
     /// dropped.
@@ -152,8 +178,10 @@ impl<N: Naming> Memory<N> {
         requires { IsSteady N.search (time_of N.search offset)
             (time_of N.search (offset + width)) }
     {
-        if let Some(word) = self.spans.get(place_of(offset) % SPANS) {
-            keep_span::<N>(word, offset, width);
+        let (place, kept) = (place_of(offset) % SPANS, kept_width(width));
+        self.keep_part(place, offset, kept);
+        if let Some(later) = offset.checked_add(width - kept) {
+            self.keep_part(place + SPANS, later, kept);
         }
     }
 
@@ -171,14 +199,28 @@ impl<N: Naming> Memory<N> {
     }
 
     /// Keeps a quiet span of some width with its sign, which begins so many times after the first of the ephemeris; says whether
-    /// there is a word for it.
+    /// there are words for it.
     pub(crate) fn keep_quiet(&self, offset: u64, width: u64, sign: Sign) -> bool
         requires { HasSign N.search (time_of N.search offset) (time_of N.search (offset + width)) sign }
     {
+        let kept = kept_width(width);
+        match offset.checked_add(width - kept) {
+            Some(later) => {
+                self.keep_quiet_part(offset, offset, kept, sign)
+                    && self.keep_quiet_part(later.wrapping_add(kept), later, kept, sign)
+            }
+            None => false,
+        }
+    }
+
+    // Keeps a span within a quiet one with its sign at the place of a time; says whether there is a word for it.
+    #[inline(always)]
+    fn keep_quiet_part(&self, time: u64, offset: u64, width: u64, sign: Sign) -> bool
+        requires { LiesInQuiet N.search (time_of N.search offset) (time_of N.search (offset + width)) sign }
+    {
         match quiet_word::<N>(offset, width, sign) {
             Some(word) => {
-                self.keep_quiet_word(offset, word);
-                self.keep_quiet_word(offset.wrapping_add(width), word);
+                self.keep_quiet_word(time, word);
                 true
             }
             None => false,
@@ -187,10 +229,10 @@ impl<N: Naming> Memory<N> {
 
     // Keeps the word for a quiet span at the place of a time.
     #[inline(always)]
-    fn keep_quiet_word(&self, offset: u64, kept: u64)
+    fn keep_quiet_word(&self, time: u64, kept: u64)
         requires { KeepsQuiet N.search kept }
     {
-        if let Some(word) = self.quiets.get(place_of(offset)) {
+        if let Some(word) = self.quiets.get(place_of(time)) {
             keep_quiet::<N>(word, kept);
         }
     }

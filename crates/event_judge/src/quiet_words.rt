@@ -1,7 +1,7 @@
 // A quiet span of a search and the sign of the function in it, in a word that workers share.
 ghost use Rattle.std.specs.Prelude.{◌≡◌, ◌+◌, IfSome};
 ghost use Rattle.event_judge.specs.Memory.{time_of};
-ghost use Rattle.event_judge.specs.Quiet.{HasSign, KeepsQuiet, LiesInQuiet, bit_of, sign_in};
+ghost use Rattle.event_judge.specs.Quiet.{KeepsQuiet, LiesInQuiet, bit_of, sign_in};
 
 use crate::naming::Naming;
 use crate::span_words::{lies_in, span_word};
@@ -13,7 +13,7 @@ use std::sync::atomic::{AtomicIn, Rule};
 /// One more than the greatest word for a span beside which there is room for a sign.
 const SPAN_WORDS: u64 = 1 << 63;
 
-/// The rule of a word for a quiet span: the span that it says is quiet and has the sign that it says.
+/// The rule of a word for a quiet span: the span that it says lies within a quiet one with the sign that it says.
 pub(crate) struct OfQuiet<N> {
     of: PhantomData<N>,
 }
@@ -51,10 +51,10 @@ fn sign_in(word: u64) -> Sign
     }
 }
 
-/// The word for a quiet span with the sign in it, where it begins early enough and is not too wide.
+/// The word for a span within a quiet one, with the sign in it, where there is a word for the span and room beside it.
 #[inline(always)]
 pub(crate) fn quiet_word<N: Naming>(offset: u64, width: u64, sign: Sign) -> Option<u64>
-    requires { HasSign N.search (time_of N.search offset) (time_of N.search (offset + width)) sign }
+    requires { LiesInQuiet N.search (time_of N.search offset) (time_of N.search (offset + width)) sign }
     ensures { IfSome result (λ word. KeepsQuiet N.search word) }
 {
     match span_word(offset, width) {

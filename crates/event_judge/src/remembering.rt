@@ -207,12 +207,14 @@ impl<N: Naming> Memory<N> {
         }
     }
 
-    // Whether a turn that is wanted is known to lie between the ends of a node.
+    // Whether the signs at the two ends of a node differ in the direction that is wanted.
     fn turns(&self, node: ValidNode) -> bool
         requires named { node.search.now ≡ N.search }
+        ensures { IsTrue result → differ N.search.event.dir
+            (sign_at N.search node.entry.node.a) (sign_at N.search node.entry.node.b) ≡ true }
     {
-        let dir = node.search.event().dir();
-        differ(dir, self.first_sign(node), self.last_sign(node))
+        let (first, last) = (self.first_sign(node), self.last_sign(node));
+        differ(node.search.event().dir(), first, last)
     }
 
     // Looks at a node that is to be split, whether it is a steady span with a turn in it, to be kept.
@@ -220,7 +222,9 @@ impl<N: Naming> Memory<N> {
         requires named { node.search.now ≡ N.search }
         requires uncrossed { crosses node.search.now node.node ≡ false }
     {
-        if self.turns(node) {
+        let turns = self.turns(node);
+        self.keep_turn(turns);
+        if turns {
             self.keep_node(node);
         }
     }
@@ -271,11 +275,14 @@ impl<N: Naming> Memory<N> {
         if verdict == Verdict::Split {
             self.keep_middle(node, &over);
             self.learn(node);
+        } else {
+            self.keep_turn(false);
         }
         verdict
     }
 
-    // The verdict of a node into which no border falls, of which nothing tells it that is remembered.
+    // The verdict of a node into which no border falls, of which nothing tells it that is remembered: where the last such node had a
+    // turn between its ends, the signs at the ends are asked first.
     fn judge_open(&self, node: ValidNode) -> Verdict
         requires named { node.search.now ≡ N.search }
         requires uncrossed { crosses node.search.now node.node ≡ false }
@@ -283,6 +290,8 @@ impl<N: Naming> Memory<N> {
     {
         if self.finds_quiet(node) {
             Verdict::Clear
+        } else if self.expects_turn() && node.is_plain() && self.turns(node) {
+            self.verdict_by_turn(node)
         } else {
             self.judge_over(node)
         }

@@ -1,28 +1,83 @@
 // Spans as words, and a steady span of a search in a word that workers share.
-ghost use Rattle.std.specs.Prelude.{◌+◌, IfSome, IsTrue};
-ghost use Rattle.spec_bounds.specs.Steady.{IsSteady};
-ghost use Rattle.event_judge.specs.Memory.{IsWordOf, KeepsSpan, LiesInSpan, LiesInSteady, time_of};
+ghost use Rattle.std.specs.Prelude.{◌≡◌, ◌^◌, ◌+◌, ◌≤◌, ◌<◌, IfSome, IsTrue};
+ghost use Rattle.event_judge.specs.Memory.{IsWordOf, KeepsSpan, LiesInSpan, LiesInSteady, time_of, width_of};
 
 use crate::naming::Naming;
 use std::marker::PhantomData;
 use std::sync::atomic::Ordering::SeqCst;
 use std::sync::atomic::{AtomicIn, Rule};
 
-/// One more than the greatest width of a span that is kept.
-const WIDTHS: u64 = 1 << 22;
+/// One more than the greatest number of units of the width of a span that is kept.
+const WIDTHS: u64 = 1 << 18;
+
+/// How many times a unit takes of the width of a span that is too wide for units of one.
+const UNIT: u64 = 1 << 14;
 
 /// One more than the latest beginning of a span that is kept.
-const OFFSETS: u64 = 1 << 42;
+const OFFSETS: u64 = 1 << 45;
 
-/// The word for a span, where it begins early enough and is not too wide.
+/// The width of the widest part of a span that a word can say, so far as its beginning and the greatest width let it.
+#[inline(always)]
+pub(crate) fn kept_width(width: u64) -> u64
+    ensures { result ≤ width }
+{
+    if width < WIDTHS {
+        width
+    } else {
+        width - width % UNIT
+    }
+}
+
+// The word for a span whose width is so many units, of one time where the scale is 0, and else of many.
+#[inline(always)]
+fn word_of(offset: u64, units: u64, scale: u64) -> u64
+    requires early { offset < 2 ^ 45 }
+    requires narrow { units < 2 ^ 18 }
+    requires scale { scale < 2 }
+    ensures { IsWordOf result offset (width_of units scale) }
+{
+    (offset * WIDTHS + units) * 2 + scale
+}
+
+// The word for a span whose width is a number of the greater units, where these are not too many.
+#[inline(always)]
+fn wide_word(offset: u64, width: u64) -> Option<u64>
+    requires early { offset < 2 ^ 45 }
+    ensures { IfSome result (λ word. IsWordOf word offset width) }
+{
+    let units = width / UNIT;
+    if units < WIDTHS && units * UNIT == width {
+        Some(word_of(offset, units, 1))
+    } else {
+        None
+    }
+}
+
+/// The word for a span, where there is one: it begins early enough and is not too wide, and where it is wide its width is a
+/// number of the greater units.
 #[inline(always)]
 pub(crate) fn span_word(offset: u64, width: u64) -> Option<u64>
     ensures { IfSome result (λ word. IsWordOf word offset width) }
 {
-    if offset < OFFSETS && width < WIDTHS {
-        Some(offset * WIDTHS + width)
-    } else {
+    if OFFSETS <= offset {
         None
+    } else if width < WIDTHS {
+        Some(word_of(offset, width, 0))
+    } else {
+        wide_word(offset, width)
+    }
+}
+
+// The width of so many units, of one time where the scale is 0, and else of many.
+#[inline(always)]
+fn width_of(units: u64, scale: u64) -> u64
+    requires { units < 2 ^ 18 }
+    ensures width { result ≡ width_of units scale }
+    ensures few { result < 2 ^ 32 }
+{
+    match scale {
+        0 => units,
+        _ => units * UNIT,
     }
 }
 
@@ -31,11 +86,12 @@ pub(crate) fn span_word(offset: u64, width: u64) -> Option<u64>
 pub(crate) fn lies_in(word: u64, from: u64, upto: u64) -> bool
     ensures { IsTrue result → LiesInSpan word from upto }
 {
-    let (offset, width) = (word / WIDTHS, word % WIDTHS);
+    let offset = word / 2 / WIDTHS;
+    let width = width_of(word / 2 % WIDTHS, word % 2);
     width > 0 && offset <= from && upto <= offset + width
 }
 
-/// The rule of a word for a span: the span that it says is steady.
+/// The rule of a word for a span: the span that it says lies within a steady one.
 pub(crate) struct OfSpan<N> {
     of: PhantomData<N>,
 }
@@ -68,10 +124,10 @@ pub(crate) fn lies_in_span<N: Naming>(word: &AtomicIn<OfSpan<N>>, from: u64, upt
     span_holds::<N>(word.load(SeqCst), from, upto)
 }
 
-/// Keeps a steady span in place of what the word had, where it begins early enough and is not too wide.
+/// Keeps a span within a steady one in place of what the word had, where there is a word for it.
 #[inline(always)]
 pub(crate) fn keep_span<N: Naming>(word: &AtomicIn<OfSpan<N>>, offset: u64, width: u64)
-    requires { IsSteady N.search (time_of N.search offset) (time_of N.search (offset + width)) }
+    requires { LiesInSteady N.search (time_of N.search offset) (time_of N.search (offset + width)) }
 {
     if let Some(kept) = span_word(offset, width) {
         word.store(kept, SeqCst);

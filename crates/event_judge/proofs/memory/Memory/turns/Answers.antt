@@ -1,0 +1,13 @@
+use Rattle.std.proofs.Common.{◌≡◌, ◌∙◌, sym, ap}
+use Rattle.spec_events.specs.Verdict.{differ}
+use Rattle.spec_searches.specs.Event.{Event}
+use Rattle.spec_searches.specs.Search.{Search}
+use Rattle.event_judge.proofs.memory.Memory.turns.Goals as goal
+
+pub returns : goal.returns
+returns g c = λ turn.
+    let s = g.N.Naming.search in
+    let dir : s.event.dir ≡ c.dir.result = sym (c.dir.ensures ∙ (ap (λ (e : Event). e.dir) c.event.ensures ∙ ap (λ (s : Search). s.event.dir) c.requires.named)) in
+    let first = sym c.first_sign-first.ensures in
+    let last = sym c.last_sign-last.ensures in
+    (λ i. differ (dir i) (first i) (last i)) ∙ (sym c.differ.ensures ∙ turn)

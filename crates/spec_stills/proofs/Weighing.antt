@@ -7,7 +7,7 @@ use Rattle.spec_trees.specs.declared.tree.Mark.{Mark}
 use Rattle.spec_trees.specs.declared.tree.Node.{Node}
 use Rattle.spec_trees.specs.declared.tree.Verdict.{Verdict}
 use Rattle.spec_trees.specs.declared.tree.Verdict.TheVariants.{Clear, Split}
-use Rattle.spec_trees.specs.Tree.{AreLeaves, IsLeaf, IsValid, leaf_count, leaves, mark_of, width}
+use Rattle.spec_trees.specs.Tree.{AreLeaves, IsLeaf, IsValid, leaf_count, mark_of, width}
 use Rattle.spec_trees.proofs.Leaves.{leaves_settled, some_width}
 use Rattle.spec_events.specs.Stages.{is_above_limits}
 use Rattle.spec_searches.specs.Found.{rules}

@@ -75,7 +75,14 @@ pub(crate) fn are_few<J: Judge>(
     if are_few_by(judge, search, stills, leaves, u64::MAX, most) {
         return true;
     }
-    if !are_few_by(judge, search, stills, leaves, u64::MAX, most.saturating_mul(2)) {
+    if !are_few_by(
+        judge,
+        search,
+        stills,
+        leaves,
+        u64::MAX,
+        most.saturating_mul(2),
+    ) {
         return false;
     }
     let share = u64::from(most / 2) / (leaves.len() as u64 + 1);

@@ -78,7 +78,7 @@ STILLS = (
     Box(1, 1, "still_spans/src/beginning.rt", ("find: Does a span begin in it?", "yes: it is split, unjudged")),
     Box(1, 2, "event_judge", ("any other: the verdict of the search",)),
     Box(1, 3, "gf_search/src/book.rt", ("the leaves in order",)),
-    Box(1, 4, "still_spans/src/serving.rt", ("Do they weigh more than the limit?", "yes: the plain tree")),
+    Box(1, 4, "gf_search/src/counts.rt", ("Do they weigh, or count, more than the limit?", "yes: the plain tree")),
     Box(1, 5, "still_spans/src/settling.rt", ("find: Is an undecided leaf in a clear one", "of the plain tree? yes: it is clear")),
     Box(1, 6, "gf_sets/src/from_leaves.rt", ("set: the sign at the end of each clear leaf",)),
 )

@@ -40,8 +40,14 @@ module _ (most : ℕ) (t : Rules) (s : Search) (n : Node) (same : t ≡ rules s)
     few = subst (λ (u : Rules). leaf_count u n ≤ most) same few;
   }
 
-  pub are_leaves : IfOk r (λ found. found.items ≡ leaves t n) → IfOk r (λ found. leaf_count t n ≤ most) → IfOk r (λ found. AreLeaves most s n found.items)
-  are_leaves = both_ok (λ found. found.items ≡ leaves t n) (λ found. leaf_count t n ≤ most) (λ found. AreLeaves most s n found.items) leaves_by r
+  have_windows : Covers n.a (leaves t n) n.b → (found : Vec Leaf Global) → found.items ≡ leaves t n → leaf_count t n ≤ most → HaveWindows most s n found.items
+  have_windows cover found is few =
+      let are = leaves_by found is few in
+      record {
+        windows = ap windows are.same;
+        follow = subst (λ (ls : List Leaf). Covers n.a ls n.b) (sym is) cover;
+        few = are.few;
+      }
 
   tell_signs : Covers n.a (leaves t n) n.b → (found : Vec Leaf Global) → found.items ≡ leaves t n → leaf_count t n ≤ most → HaveSigns most s n found.items
   tell_signs cover found is few =
@@ -52,8 +58,15 @@ module _ (most : ℕ) (t : Rules) (s : Search) (n : Node) (same : t ≡ rules s)
         few = are.few;
       }
 
-  pub have_signs : Covers n.a (leaves t n) n.b → IfOk r (λ found. found.items ≡ leaves t n) → IfOk r (λ found. leaf_count t n ≤ most) → IfOk r (λ found. HaveSigns most s n found.items)
-  have_signs cover = both_ok (λ found. found.items ≡ leaves t n) (λ found. leaf_count t n ≤ most) (λ found. HaveSigns most s n found.items) (tell_signs cover) r
+  wanted_by : Covers n.a (leaves t n) n.b → (w : Wanted) (found : Vec Leaf Global) → found.items ≡ leaves t n → leaf_count t n ≤ most → AreWanted w most s n found.items
+  wanted_by cover Leaves = leaves_by
+  wanted_by cover Windows = have_windows cover
+  wanted_by cover Signs = tell_signs cover
+
+  -- its leaves serve whatever is wanted
+  pub are_wanted : Covers n.a (leaves t n) n.b → IfOk r (λ found. found.items ≡ leaves t n) → IfOk r (λ found. leaf_count t n ≤ most)
+      → (w : Wanted) → IfOk r (λ found. AreWanted w most s n found.items)
+  are_wanted cover all few w = both_ok (λ found. found.items ≡ leaves t n) (λ found. leaf_count t n ≤ most) (λ found. AreWanted w most s n found.items) (wanted_by cover w) r all few
 
   pub leaves_stopped_by : IfErr r (StopsAt most (leaf_count t n)) → IfErr r (StopsAt most (leaf_count (rules s) n))
   leaves_stopped_by = subst (λ (u : Rules). IfErr r (StopsAt most (leaf_count u n))) same

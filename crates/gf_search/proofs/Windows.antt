@@ -1,8 +1,7 @@
 -- The leaves of the tree of a search, and those of its eager tree, settled, have the windows of the tree; those of its served
 -- tree tell its signs.
 use Rattle.std.proofs.Common.{◌≡◌, ◌≤◌, ℕ, Bool, true, false, List, [], sym, ap, ◌∙◌, subst, arith}
-use Rattle.std.proofs.lemmas.Bool.{leb-true}
-use Rattle.std.specs.Prelude.{All, if◌then◌else◌, map, nat_le}
+use Rattle.std.specs.Prelude.{All, if◌then◌else◌, map}
 use Rattle.spec_trees.specs.declared.tree.Leaf.{Leaf}
 use Rattle.spec_trees.specs.declared.tree.Node.{Node}
 use Rattle.spec_trees.specs.Tree.{Covers, leaf_count, leaves}
@@ -14,7 +13,6 @@ use Rattle.spec_stills.specs.Still.{IsStill}
 use Rattle.spec_stills.specs.Eager.{eager_rules}
 use Rattle.spec_stills.specs.ServedTree.{TellTheSame, served_rules}
 use Rattle.spec_stills.specs.Settled.{settled, settled_leaves}
-use Rattle.spec_stills.specs.Weights.{weights}
 use Rattle.still_spans.specs.Order.{are_in_order, in_order_or_none}
 use Rattle.gf_search.specs.Wanted.{HaveSigns, HaveWindows}
 
@@ -27,31 +25,23 @@ pub kept_still : (s : Search) (xs kept : List StillSpan) → kept ≡ in_order_o
 kept_still s xs kept is stills = subst (All (IsStill s)) (sym is) (kept_by s xs (are_in_order xs) stills)
 
 -- ---- windows
-module _ (most : ℕ) (s : Search) (n : Node) (ls : List Leaf) where
-  -- and so have those of the eager tree, settled, where they weigh no more than so much
-  pub settled_have : (xs : List StillSpan) (found : List Leaf) → windows (settled_leaves s xs n) ≡ windows (leaves (rules s) n) → Covers n.a (settled_leaves s xs n) n.b
-      → leaf_count (rules s) n ≤ weights s xs (leaves (eager_rules s xs) n) → found ≡ leaves (eager_rules s xs) n → ls ≡ map (settled s n) found
-      → nat_le (weights s xs found) most ≡ true → HaveWindows most s n ls
-  settled_have xs found windows_same cover weighed found_is same light =
-      let few = leb-true (weights s xs found) most light in
-      let here = subst (λ (vs : List Leaf). leaf_count (rules s) n ≤ weights s xs vs) (sym found_is) weighed in
-      let all = same ∙ ap (map (settled s n)) found_is in
-      record {
-        windows = ap windows all ∙ windows_same;
-        follow = subst (λ (vs : List Leaf). Covers n.a vs n.b) (sym all) cover;
-        few = omega (arith, few, here);
-      }
+-- and so have those of the eager tree, settled
+pub settled_have : (most : ℕ) (s : Search) (n : Node) (ls : List Leaf) (xs : List StillSpan) (found : List Leaf) → windows (settled_leaves s xs n) ≡ windows (leaves (rules s) n)
+    → Covers n.a (settled_leaves s xs n) n.b → found ≡ leaves (eager_rules s xs) n → ls ≡ map (settled s n) found → leaf_count (rules s) n ≤ most → HaveWindows most s n ls
+settled_have most s n ls xs found windows_same cover found_is same few =
+    let all = same ∙ ap (map (settled s n)) found_is in
+    record {
+      windows = ap windows all ∙ windows_same;
+      follow = subst (λ (vs : List Leaf). Covers n.a vs n.b) (sym all) cover;
+      few = few;
+    }
 
 -- ---- signs
--- the leaves of the served tree tell the signs of the tree, where they weigh no more than so much
+-- the leaves of the served tree tell the signs of the tree
 pub served_tell : (most : ℕ) (s : Search) (n : Node) (ls : List Leaf) (xs : List StillSpan) → TellTheSame s n.a (leaves (served_rules s xs) n) (leaves (rules s) n) n.b
-    → Covers n.a (leaves (served_rules s xs) n) n.b → leaf_count (rules s) n ≤ weights s xs (leaves (served_rules s xs) n) → ls ≡ leaves (served_rules s xs) n
-    → nat_le (weights s xs ls) most ≡ true → HaveSigns most s n ls
-served_tell most s n ls xs same cover weighed is light =
-    let few = leb-true (weights s xs ls) most light in
-    let here = subst (λ (vs : List Leaf). leaf_count (rules s) n ≤ weights s xs vs) (sym is) weighed in
-    record {
-      signs = subst (λ (vs : List Leaf). TellTheSame s n.a vs (leaves (rules s) n) n.b) (sym is) same;
-      follow = subst (λ (vs : List Leaf). Covers n.a vs n.b) (sym is) cover;
-      few = omega (arith, few, here);
-    }
+    → Covers n.a (leaves (served_rules s xs) n) n.b → ls ≡ leaves (served_rules s xs) n → leaf_count (rules s) n ≤ most → HaveSigns most s n ls
+served_tell most s n ls xs same cover is few = record {
+  signs = subst (λ (vs : List Leaf). TellTheSame s n.a vs (leaves (rules s) n) n.b) (sym is) same;
+  follow = subst (λ (vs : List Leaf). Covers n.a vs n.b) (sym is) cover;
+  few = few;
+}

@@ -1,5 +1,5 @@
 // Leaves that have the windows of a search: those of its eager tree, settled, or those of its tree.
-ghost use Rattle.std.specs.Prelude.{◌≡◌, All, IfErr, IfOk, map};
+ghost use Rattle.std.specs.Prelude.{◌≡◌, ◌≤◌, All, IfErr, IfOk, map};
 ghost use Rattle.spec_trees.specs.Tree.{HasTime, IsValid, leaf_count, leaves};
 ghost use Rattle.spec_searches.specs.Found.{rules};
 ghost use Rattle.spec_stills.specs.Still.{IsStill};
@@ -7,14 +7,15 @@ ghost use Rattle.spec_stills.specs.Eager.{eager_rules};
 ghost use Rattle.spec_stills.specs.Settled.{settled};
 ghost use Rattle.gf_search.specs.Wanted.{HaveWindows, StopsAt};
 
-use crate::book::leaves_by;
+use crate::coarse::coarse_leaves;
 use crate::crew::Crew;
+use crate::whole::tree_leaves;
 use event_judge::{EventSearch, Judge};
 use gf_edges::Gate;
-use halving::rules_are_sound;
 use spec_outcomes::Refusal;
-use spec_stills::eager_laws::{eager_trees_are_sound, eager_trees_weigh_enough};
+use spec_stills::eager_laws::eager_trees_are_sound;
 use spec_stills::settled_laws::settled_leaves_have_the_same_windows;
+use spec_stills::weight_laws::{leaves_weigh_enough, the_tree_has_no_more_leaves_than_lie_below};
 use spec_trees::{Leaf, Node, leaves_cover_the_node};
 use std::sync::Wait;
 use std::thread::Threads;
@@ -42,8 +43,9 @@ pub(crate) fn stills_of<R: Threads + Sync, G>(
     }
 }
 
-// The leaves of the eager tree of a search, by a judge of its nodes and by spans that may be still.
-fn eager_leaves_by<R: Threads + Wait + Sync, J: Judge, G: Gate>(
+// The leaves of the eager tree of a search, by a judge of its nodes and by still spans, where the tree of the search has no more
+// than the crew may find, as far as is known; else an error.
+fn eager_leaves<R: Threads + Wait + Sync, J: Judge, G: Gate>(
     crew: &Crew<R, G>,
     judge: &J,
     search: &EventSearch,
@@ -52,31 +54,19 @@ fn eager_leaves_by<R: Threads + Wait + Sync, J: Judge, G: Gate>(
 ) -> Result<Vec<Leaf>, Refusal>
     requires rules { J.rules judge.now ≡ rules search.now }
     requires valid { IsValid (rules search.now) root }
-    ensures { IfOk result (λ found. found.items
+    requires still { All (IsStill search.now) stills.now }
+    ensures leaves { IfOk result (λ found. found.items
         ≡ leaves (eager_rules search.now stills.now) root) }
+    ensures few { IfOk result (λ found.
+        leaf_count (rules search.now) root ≤ crew.now.max_leaves) }
 {
+    search.is_search();
     eager_trees_are_sound();
-    let eager = EagerJudge::new(judge, search, stills);
-    leaves_by(crew, &eager, root)
-}
-
-// The leaves of the tree of a search, by a judge of its nodes, which have its windows.
-fn fine_leaves_by<R: Threads + Wait + Sync, J: Judge, G: Gate>(
-    crew: &Crew<R, G>,
-    judge: &J,
-    search: &EventSearch,
-    root: Node,
-) -> Result<Vec<Leaf>, Refusal>
-    requires rules { J.rules judge.now ≡ rules search.now }
-    requires valid { IsValid (rules search.now) root }
-    ensures windows { IfOk result (λ found.
-        HaveWindows crew.now.max_leaves search.now root found.items) }
-    ensures stopped { IfErr result (λ refusal.
-        StopsAt crew.now.max_leaves (leaf_count (rules search.now) root) refusal) }
-{
-    rules_are_sound(judge);
     leaves_cover_the_node();
-    leaves_by(crew, judge, root)
+    leaves_weigh_enough();
+    the_tree_has_no_more_leaves_than_lie_below();
+    let eager = EagerJudge::new(judge, search, stills);
+    coarse_leaves(crew, &eager, judge, search, stills, root)
 }
 
 // Leaves of the eager tree of a search at a root, settled by a judge of its nodes.
@@ -98,10 +88,10 @@ fn settled<J: Judge>(
     leaves
 }
 
-// Leaves that have the windows of the tree of a search at a root, by a judge of its nodes and by still spans: those of the
-// eager tree, settled, where they weigh no more than the crew may find; or those of the tree; or `TooManyLeaves` where these
-// are more than that.
-fn eager_windows<R: Threads + Wait + Sync, J: Judge, G: Gate>(
+/// Leaves that have the windows of the tree of a search at a root, by a judge of its nodes and by still spans, in order of
+/// time: those of the eager tree, settled, where the tree has no more leaves than the crew may find, as far as is known; or those
+/// of the tree; or `TooManyLeaves` where these are more than that.
+pub(crate) fn windowed_leaves<R: Threads + Wait + Sync, J: Judge, G: Gate>(
     crew: &Crew<R, G>,
     judge: &J,
     search: &EventSearch,
@@ -118,44 +108,14 @@ fn eager_windows<R: Threads + Wait + Sync, J: Judge, G: Gate>(
 {
     search.is_search();
     eager_trees_are_sound();
-    eager_trees_weigh_enough();
     settled_leaves_have_the_same_windows();
     leaves_cover_the_node();
-    match eager_leaves_by(crew, judge, search, stills, root) {
+    match eager_leaves(crew, judge, search, stills, root) {
         Ok(found) => {
-            if stills.are_few(search, &found, crew.max_leaves) {
-                let leaves = settled(judge, search, stills, root, found);
-                Ok(leaves)
-            } else {
-                fine_leaves_by(crew, judge, search, root)
-            }
+            let leaves = settled(judge, search, stills, root, found);
+            Ok(leaves)
         }
         Err(Refusal::Memory) => Err(Refusal::Memory),
-        Err(_) => fine_leaves_by(crew, judge, search, root),
-    }
-}
-
-/// Leaves that have the windows of the tree of a search at a root, by a judge of its nodes and by still spans, in order of
-/// time: those of the eager tree, settled; or those of the tree, where there are no spans, or where the tree may have more
-/// leaves than the crew may find; or `TooManyLeaves` where it has.
-pub(crate) fn windowed_leaves<R: Threads + Wait + Sync, J: Judge, G: Gate>(
-    crew: &Crew<R, G>,
-    judge: &J,
-    search: &EventSearch,
-    stills: &StillList,
-    root: Node,
-) -> Result<Vec<Leaf>, Refusal>
-    requires rules { J.rules judge.now ≡ rules search.now }
-    requires valid { IsValid (rules search.now) root }
-    requires still { All (IsStill search.now) stills.now }
-    ensures windows { IfOk result (λ found.
-        HaveWindows crew.now.max_leaves search.now root found.items) }
-    ensures stopped { IfErr result (λ refusal.
-        StopsAt crew.now.max_leaves (leaf_count (rules search.now) root) refusal) }
-{
-    if stills.is_empty() {
-        fine_leaves_by(crew, judge, search, root)
-    } else {
-        eager_windows(crew, judge, search, stills, root)
+        Err(_) => tree_leaves(crew, judge, search, root),
     }
 }

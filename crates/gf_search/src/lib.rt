@@ -12,7 +12,9 @@
 #![tactic(auto)]
 
 mod book;
+mod coarse;
 mod combined;
+mod counts;
 mod crew;
 mod eager;
 mod reached;
@@ -23,6 +25,7 @@ mod scalar_search;
 mod search;
 mod signs;
 mod wanted;
+mod whole;
 
 pub use crew::Crew;
 pub use relations::related;

@@ -1,14 +1,15 @@
 // What is wanted of a tree, by a judge that remembers.
-ghost use Rattle.std.specs.Prelude.{◌≡◌, IfErr, IfOk};
+ghost use Rattle.std.specs.Prelude.{◌≡◌, All, IfErr, IfOk};
 ghost use Rattle.spec_trees.specs.Tree.{IsValid, leaf_count};
 ghost use Rattle.spec_searches.specs.Found.{rules};
-ghost use Rattle.gf_search.specs.Wanted.{AreLeaves, AreWanted, HaveWindows, StopsAt};
+ghost use Rattle.spec_stills.specs.Still.{IsStill};
+ghost use Rattle.gf_search.specs.Wanted.{AreWanted, StopsAt};
 
-use crate::book::leaves_by;
 use crate::crew::Crew;
 use crate::eager::{stills_of, windowed_leaves};
-use crate::signs::tree_signs;
+use crate::signs::signed_leaves;
 use crate::wanted::Wanted;
+use crate::whole::tree_leaves;
 use event_judge::{EventSearch, Judge, Naming, RememberingJudge};
 use gf_edges::Gate;
 use spec_outcomes::Refusal;
@@ -16,41 +17,46 @@ use spec_trees::{Leaf, Node};
 use std::marker::Brand;
 use std::sync::Wait;
 use std::thread::Threads;
+use still_spans::StillList;
 
-// The leaves of the tree of a search at a root, by a judge of its nodes.
-fn tree_leaves<R: Threads + Wait + Sync, J: Judge, G: Gate>(
+// Still spans of a search over the times of a node, in order, which a crew looks for; none where leaves are wanted.
+fn stills_for<R: Threads + Sync, G>(
     crew: &Crew<R, G>,
-    judge: &J,
+    wanted: Wanted,
     search: &EventSearch,
-    root: Node,
-) -> Result<Vec<Leaf>, Refusal>
-    requires rules { J.rules judge.now ≡ rules search.now }
-    requires valid { IsValid (rules search.now) root }
-    ensures leaves { IfOk result (λ found.
-        AreLeaves crew.now.max_leaves search.now root found.items) }
-    ensures stopped { IfErr result (λ refusal.
-        StopsAt crew.now.max_leaves (leaf_count (rules search.now) root) refusal) }
+    node: Node,
+) -> Result<StillList, Refusal>
+    ensures still { IfOk result (λ stills. All (IsStill search.now) stills) }
+    ensures memory { IfErr result (λ refusal. refusal ≡ Refusal.Memory) }
 {
-    leaves_by(crew, judge, root)
+    match wanted {
+        Wanted::Leaves => Ok(StillList::new(Vec::new(crew.alloc))),
+        Wanted::Windows => stills_of(crew, search, node),
+        Wanted::Signs => stills_of(crew, search, node),
+    }
 }
 
-// Leaves that have the windows of the tree of a search at a root, by a judge of its nodes: still spans are found first.
-fn tree_windows<R: Threads + Wait + Sync, J: Judge, G: Gate>(
+// What is wanted of the tree of a search at a root, by a judge of its nodes and by still spans.
+fn leaves_among<R: Threads + Wait + Sync, J: Judge, G: Gate>(
     crew: &Crew<R, G>,
+    wanted: Wanted,
     judge: &J,
     search: &EventSearch,
+    stills: &StillList,
     root: Node,
 ) -> Result<Vec<Leaf>, Refusal>
     requires rules { J.rules judge.now ≡ rules search.now }
     requires valid { IsValid (rules search.now) root }
-    ensures windows { IfOk result (λ found.
-        HaveWindows crew.now.max_leaves search.now root found.items) }
+    requires still { All (IsStill search.now) stills.now }
+    ensures found { IfOk result (λ found.
+        AreWanted wanted crew.now.max_leaves search.now root found.items) }
     ensures stopped { IfErr result (λ refusal.
         StopsAt crew.now.max_leaves (leaf_count (rules search.now) root) refusal) }
 {
-    match stills_of(crew, search, root) {
-        Ok(stills) => windowed_leaves(crew, judge, search, &stills, root),
-        Err(refusal) => Err(refusal),
+    match wanted {
+        Wanted::Leaves => tree_leaves(crew, judge, search, root),
+        Wanted::Windows => windowed_leaves(crew, judge, search, stills, root),
+        Wanted::Signs => signed_leaves(crew, judge, search, stills, root),
     }
 }
 
@@ -69,10 +75,15 @@ fn wanted_leaves<R: Threads + Wait + Sync, J: Judge, G: Gate>(
     ensures stopped { IfErr result (λ refusal.
         StopsAt crew.now.max_leaves (leaf_count (rules search.now) root) refusal) }
 {
-    match wanted {
-        Wanted::Leaves => tree_leaves(crew, judge, search, root),
-        Wanted::Windows => tree_windows(crew, judge, search, root),
-        Wanted::Signs => tree_signs(crew, judge, search, root),
+    match stills_for(crew, wanted, search, root) {
+        Ok(stills) => {
+            if stills.is_empty() {
+                tree_leaves(crew, judge, search, root)
+            } else {
+                leaves_among(crew, wanted, judge, search, &stills, root)
+            }
+        }
+        Err(refusal) => Err(refusal),
     }
 }
 

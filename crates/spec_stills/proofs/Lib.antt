@@ -9,8 +9,8 @@ pub mod Cleared
 pub mod Settling
 pub mod Descending
 pub mod Counting
-pub mod Weighing
 pub mod ServedTrees
+pub mod Weighing
 pub mod Fractions
 pub mod Made
 pub mod Sizes

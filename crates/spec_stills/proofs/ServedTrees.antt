@@ -1,4 +1,5 @@
--- The served tree of a search is sound, its leaves tell the signs that those of the tree tell, and they weigh enough.
+-- The served tree of a search is sound, its leaves tell the signs that those of the tree tell, and no fewer leaves of the tree lie
+-- below them.
 use Rattle.std.proofs.Common.{◌≡◌, ℕ, zero, suc, ◌≤◌, All, List, [], ◌∷◌, ◌++◌, length, Bool, true, false, ◌&&◌, Option, Some, None, ℤ, int_le, ◌≤ℤ◌, ◌<ℤ◌, refl, sym, ap, ◌∙◌, length-append, arith}
 use Rattle.std.specs.Prelude.{if◌then◌else◌}
 use Rattle.std.proofs.lemmas.Int.{ints}
@@ -23,11 +24,10 @@ use Rattle.spec_searches.proofs.Parts.{rules_are_sound}
 use Rattle.spec_bounds.specs.Steady.{sign_at}
 use Rattle.spec_stills.specs.declared.still.StillSpan.{StillSpan}
 use Rattle.spec_stills.specs.Still.{AreClear, IsStill, is_fine_enough, is_near_enough, is_served, lies_in, serves}
-use Rattle.spec_stills.specs.Weights.{first_serving, weight, weights}
 use Rattle.spec_stills.specs.ServedTree.{TellTheSame, served_rules, served_verdict}
+use Rattle.spec_stills.specs.Settled.{leaves_below}
 use Rattle.spec_stills.proofs.Blocks.{one_clear}
 use Rattle.spec_stills.proofs.Served.{second, served_block}
-use Rattle.spec_stills.proofs.Weighing.{some_weight}
 
 -- ---- the tree
 split_of : (served : Bool) (v : Verdict) → (if served then Clear else v) ≡ Split → v ≡ Split
@@ -149,36 +149,36 @@ served_sign s n (x ∷ xs) stills served =
 
 -- ---- both trees at a node
 module _ (s : Search) (xs : List StillSpan) (is : IsSearch s) (stills : All (IsStill s) xs) where
-  -- the leaves of the served tree tell the signs of those of the tree, which are no more than these weigh
+  abbrev count_of : Leaf → ℕ
+  count_of l = leaf_count (rules s) l.node
+
+  -- the leaves of the served tree tell the signs of those of the tree, which are no more than those below these
   record StandFor (n : Node) : Type 0 where
     told : (t : ℤ) → t ≤ℤ n.b → sign_among (sign_at s) (leaves (served_rules s xs) n) t ≡ sign_among (sign_at s) (leaves (rules s) n) t
-    enough : leaf_count (rules s) n ≤ weights s xs (leaves (served_rules s xs) n)
+    enough : leaf_count (rules s) n ≤ leaves_below s (leaves (served_rules s xs) n)
 
   one_stands : (n : Node) (m : Mark) → IsValid (rules s) n → served_verdict s xs n ≡ verdict_of s n → mark_of (verdict_of s n) ≡ Some m → StandFor n
   one_stands n m valid same marked =
       let fine = leaves_settled (rules s) (rules_are_sound s is.view) n valid m marked in
       let served = leaves_settled (served_rules s xs) (served_sound s xs is) n (valid_served s xs n valid) m (ap mark_of same ∙ marked) in
-      let one = ap (λ (ls : List Leaf). length ls) fine in
-      let weighed = ap (weights s xs) served ∙ sum_by-cons (weight s xs) (leaf_of n m) [] in
-      let some = some_weight (first_serving s xs n) n (some_width (rules s) n valid) in
+      let below = ap (leaves_below s) served ∙ sum_by-cons count_of (leaf_of n m) [] in
       record {
         told = λ t upto. ap (λ (ls : List Leaf). sign_among (sign_at s) ls t) (served ∙ sym fine);
-        enough = omega (arith, one, weighed, some);
+        enough = omega (arith, below);
       }
 
   served_stand : (n : Node) → IsValid (rules s) n → is_served s xs n ≡ true → StandFor n
   served_stand n valid served =
       let block = served_block s n is valid xs stills served in
-      let few = block.few in
       let one = leaves_settled (served_rules s xs) (served_sound s xs is) n (valid_served s xs n valid) M.Clear (ap mark_of (served_clear s xs n served)) in
-      let weighed = ap (weights s xs) one ∙ sum_by-cons (weight s xs) (leaf_of n M.Clear) [] in
+      let below = ap (leaves_below s) one ∙ sum_by-cons count_of (leaf_of n M.Clear) [] in
       let alike = served_sign s n xs stills served in
       record {
         told = λ t upto.
             ap (λ (ls : List Leaf). sign_among (sign_at s) ls t) one
             ∙ all_told (sign_at s) alike.sign (leaf_of n M.Clear ∷ []) n.a n.b (one_clear 1 n (omega arith)).clear (refl, valid.inside, refl) valid.inside alike.signs t upto
             ∙ sym (all_told (sign_at s) alike.sign (leaves (rules s) n) n.a n.b block.clear (leaves_cover (rules s) (rules_are_sound s is.view) n valid) valid.inside alike.signs t upto);
-        enough = omega (arith, few, weighed);
+        enough = omega (arith, below);
       }
 
   split_stands : (k : ℕ) (n : Node) → IsValid (rules s) n → width n ≤ suc k → served_verdict s xs n ≡ verdict_of s n → verdict_of s n ≡ Split
@@ -200,7 +200,7 @@ module _ (s : Search) (xs : List StillSpan) (is : IsSearch s) (stills : All (IsS
       let left_enough = left.enough in
       let right_enough = right.enough in
       let count = ap (λ (ls : List Leaf). length ls) fine ∙ length-append (leaves (rules s) first) (leaves (rules s) second) in
-      let sum = ap (weights s xs) served ∙ sum_by-append (weight s xs) (leaves (served_rules s xs) first) (leaves (served_rules s xs) second) in
+      let sum = ap (leaves_below s) served ∙ sum_by-append count_of (leaves (served_rules s xs) first) (leaves (served_rules s xs) second) in
       record {
         told = λ t upto.
             ap (λ (ls : List Leaf). sign_among (sign_at s) ls t) served
@@ -228,8 +228,8 @@ module _ (s : Search) (xs : List StillSpan) (is : IsSearch s) (stills : All (IsS
   stand_for : (n : Node) → IsValid (rules s) n → StandFor n
   stand_for n valid = by_width (width n) n valid (omega arith)
 
-  pub served_weigh_enough : (n : Node) → IsValid (rules s) n → leaf_count (rules s) n ≤ weights s xs (leaves (served_rules s xs) n)
-  served_weigh_enough n valid = (stand_for n valid).enough
+  pub enough_below_served : (n : Node) → IsValid (rules s) n → leaf_count (rules s) n ≤ leaves_below s (leaves (served_rules s xs) n)
+  enough_below_served n valid = (stand_for n valid).enough
 
   pub served_tell_the_same : (n : Node) → IsValid (rules s) n → TellTheSame s n.a (leaves (served_rules s xs) n) (leaves (rules s) n) n.b
   served_tell_the_same n valid = λ t upto. ap (λ (x : Sign). if int_le t n.a then sign_at s n.a else x) ((stand_for n valid).told t upto)

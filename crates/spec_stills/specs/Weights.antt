@@ -1,8 +1,9 @@
--- How many leaves of the tree of a search there may be where its eager tree has one.
-use Rattle.std.specs.Prelude.{ℕ, zero, suc, ◌*◌, ◌^◌, min, nat_le, List, Option, None, Some, find, sum_by, if◌then◌else◌}
+-- How many leaves of the tree of a search there may be where its eager tree, or its served tree, has one.
+use Rattle.std.specs.Prelude.{ℕ, zero, suc, ◌≤◌, ◌*◌, ◌^◌, min, nat_le, List, Option, None, Some, find, if◌then◌else◌}
 use Rattle.spec_trees.specs.declared.tree.Leaf.{Leaf}
 use Rattle.spec_trees.specs.declared.tree.Node.{Node}
-use Rattle.spec_trees.specs.Tree.{width}
+use Rattle.spec_trees.specs.Tree.{IsValid, leaf_count, width}
+use Rattle.spec_searches.specs.Found.{rules}
 use Rattle.spec_searches.specs.Search.{Search}
 use Rattle.spec_stills.specs.declared.still.StillSpan.{StillSpan}
 use Rattle.spec_stills.specs.Still.{serves}
@@ -28,5 +29,7 @@ weight_by (Some x) n = min (2 ^ halvings_of x n) (width n)
 abbrev pub weight : Search → List StillSpan → Leaf → ℕ
 weight s xs l = weight_by (first_serving s xs l.node) l.node
 
-abbrev pub weights : Search → List StillSpan → List Leaf → ℕ
-weights s xs ls = sum_by (weight s xs) ls
+-- the leaf is a valid node of the search, whose tree has no more leaves below it than it weighs
+pub record IsWeighed (s : Search) (xs : List StillSpan) (l : Leaf) : Type 0 where
+  pub valid : IsValid (rules s) l.node
+  pub enough : leaf_count (rules s) l.node ≤ weight s xs l

@@ -6,9 +6,9 @@
 //! A span is still where the function of the search keeps a margin from 0 at each time, which its steps cannot use up.
 //!
 //! Nothing runs here. Searches and spans come in; what goes out are the definitions of `specs/`, worked values of them, and
-//! laws: `still_laws` says what is still, `eager_laws` that eager trees are sound, and how many leaves the tree of the search may
-//! have, `settled_laws` that settled leaves have its windows, `served_laws` that served trees tell its signs, `margin_laws` that
-//! spans with a margin are still.
+//! laws: `still_laws` says what is still, `eager_laws` that eager trees are sound, `settled_laws` that settled leaves have the
+//! windows of the tree of the search, `served_laws` that served trees tell its signs, `weight_laws` how many leaves it may have,
+//! `margin_laws` that spans with a margin are still.
 #![tactic(auto)]
 
 mod eager_examples;
@@ -22,6 +22,7 @@ pub mod settled_laws;
 mod still;
 mod still_examples;
 pub mod still_laws;
+pub mod weight_laws;
 
 pub use eager_examples::{nodes_that_are_split_unjudged, spans_that_begin_in_a_node};
 pub use served_examples::nodes_that_are_served_or_judged;

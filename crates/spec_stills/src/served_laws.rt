@@ -1,12 +1,11 @@
-// Laws of served trees. Each is the contract of a function that does nothing.
-ghost use Rattle.std.specs.Prelude.{◌≤◌, All, List};
+// What is true of served trees: each law is the contract of a function with nothing to do.
+ghost use Rattle.std.specs.Prelude.{All, List};
 ghost use Rattle.spec_trees.specs.declared.tree.Node.{Node};
-ghost use Rattle.spec_trees.specs.Tree.{IsSound, IsValid, leaf_count, leaves};
+ghost use Rattle.spec_trees.specs.Tree.{IsSound, IsValid, leaves};
 ghost use Rattle.spec_searches.specs.Found.{rules};
 ghost use Rattle.spec_searches.specs.Search.{IsSearch, Search};
 ghost use Rattle.spec_stills.specs.declared.still.StillSpan.{StillSpan};
 ghost use Rattle.spec_stills.specs.Still.{IsStill};
-ghost use Rattle.spec_stills.specs.Weights.{weights};
 ghost use Rattle.spec_stills.specs.ServedTree.{TellTheSame, served_rules};
 
 /// The served trees of any spans are sound, and have the valid nodes of the tree.
@@ -22,11 +21,4 @@ pub fn served_trees_tell_the_same()
     ensures { (s : Search) (xs : List StillSpan) (root : Node) → IsSearch s → All (IsStill s) xs
         → IsValid (rules s) root
         → TellTheSame s root.a (leaves (served_rules s xs) root) (leaves (rules s) root) root.b }
-{}
-
-/// Where the spans are still, the tree has no more leaves than the leaves of the served tree weigh.
-pub fn served_trees_weigh_enough()
-    ensures { (s : Search) (xs : List StillSpan) (root : Node) → IsSearch s → All (IsStill s) xs
-        → IsValid (rules s) root
-        → leaf_count (rules s) root ≤ weights s xs (leaves (served_rules s xs) root) }
 {}

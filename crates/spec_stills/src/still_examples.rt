@@ -6,7 +6,7 @@ ghost use Rattle.spec_events.specs.VerdictExamples.{node_at};
 ghost use Rattle.spec_searches.specs.Search.{Search};
 ghost use Rattle.spec_stills.specs.StillExamples.{both, cutting, early, early_again};
 ghost use Rattle.spec_stills.specs.Still.{is_served, serves};
-ghost use Rattle.spec_stills.specs.Weights.{weight, weights};
+ghost use Rattle.spec_stills.specs.Weights.{weight};
 
 /// A span serves a node of 24 ticks where three halvings make it 3 ticks wide. It serves no wider node, none within
 /// three of the depth, none that reaches over its end, and none that is cut at its first third.
@@ -27,9 +27,9 @@ pub fn nodes_that_are_served()
 /// it, a leaf counts as the first says. In a span that allows five halvings a leaf of 24 ticks counts 8, since three bring it
 /// to 3 ticks, one of 25 ticks counts 16, one of 7 ticks counts 4, and one of 3 ticks counts 1.
 pub fn weights_of_leaves()
-    ensures sum { (s : Search) → weights (cutting Half s) both
-        (clear_at 6 (pos 40) (pos 60) ∷ clear_at 6 (pos 60) (pos 68)
-        ∷ clear_at 6 (pos 68) (pos 128) ∷ []) ≡ 41 }
+    ensures early { (s : Search) → weight (cutting Half s) both (clear_at 6 (pos 40) (pos 60)) ≡ 8 }
+    ensures late { (s : Search) → weight (cutting Half s) both (clear_at 6 (pos 68) (pos 128)) ≡ 32 }
+    ensures across { (s : Search) → weight (cutting Half s) both (clear_at 6 (pos 60) (pos 68)) ≡ 1 }
     ensures first { (s : Search) → weight (cutting Half s) (early ∷ early_again ∷ [])
         (clear_at 6 (pos 40) (pos 60)) ≡ 8 }
     ensures three { (s : Search) → weight (cutting Half s) both (clear_at 6 (pos 70) (pos 94)) ≡ 8 }

@@ -1,8 +1,8 @@
 // The still span that serves a node of a search, and how many leaves of its tree leaves of the eager tree stand for.
-ghost use Rattle.std.specs.Prelude.{◌≡◌, ◌≤◌, ◌<ℤ◌, ◌*◌, ◌^◌, All, IfSome, min, nat_le};
+ghost use Rattle.std.specs.Prelude.{◌≡◌, ◌≤◌, ◌<ℤ◌, ◌*◌, ◌^◌, IfSome, min, nat_le};
 ghost use Rattle.spec_trees.specs.Tree.{HasTime, width};
 ghost use Rattle.spec_stills.specs.Still.{is_fine_enough, is_half, is_near_enough, lies_in, serves};
-ghost use Rattle.spec_stills.specs.Weights.{fewest_halvings, first_serving, halvings_of, weight, weights};
+ghost use Rattle.spec_stills.specs.Weights.{fewest_halvings, first_serving, halvings_of, weight};
 ghost use Rattle.still_spans.specs.Stands.{IsCount};
 ghost use Rattle.still_spans.specs.declared.limits.TheConstants.{MAX_HALVINGS};
 
@@ -138,8 +138,8 @@ impl StillList {
         self.serving_of(search, node, self.count_upto(node))
     }
 
-    // How many leaves of the tree of a search a leaf of its eager tree stands for at most.
-    fn weight(&self, search: &EventSearch, leaf: Leaf) -> u64
+    /// How many leaves of the tree of a search a leaf of its eager tree stands for at most, as far as the spans tell.
+    pub fn weight(&self, search: &EventSearch, leaf: Leaf) -> u64
         requires { HasTime leaf }
         ensures weight { result ≡ weight search.now self.now leaf }
         ensures few { result ≤ 2 ^ MAX_HALVINGS }
@@ -148,21 +148,5 @@ impl StillList {
             Some(still) => leaves_of(still, leaf.node),
             None => 1,
         }
-    }
-
-    /// Whether leaves of the eager tree of a search stand for no more than so many leaves of its tree, as far as the spans
-    /// tell.
-    pub fn are_few(&self, search: &EventSearch, leaves: &[Leaf], most: u32) -> bool
-        requires { All HasTime leaves.now }
-        ensures { result ≡ nat_le (weights search.now self.now leaves.now) most }
-    {
-        let mut sum = 0;
-        for leaf in leaves.iter() {
-            sum += self.weight(search, *leaf);
-            if sum > u64::from(most) {
-                return false;
-            }
-        }
-        true
     }
 }

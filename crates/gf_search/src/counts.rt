@@ -1,0 +1,90 @@
+// How many leaves of the tree of a search lie below leaves of a coarser tree, at most: as many as they weigh, or as are counted.
+ghost use Rattle.std.specs.Prelude.{◌≡◌, ◌≤◌, All, IfSome, IsTrue};
+ghost use Rattle.spec_trees.specs.Tree.{leaf_count};
+ghost use Rattle.spec_searches.specs.Found.{rules};
+ghost use Rattle.spec_stills.specs.Settled.{leaves_below};
+ghost use Rattle.spec_stills.specs.Weights.{IsWeighed};
+
+use event_judge::{EventSearch, Judge};
+use halving::count_one;
+use spec_trees::Leaf;
+use still_spans::StillList;
+
+// How many lie below one of them at most, where these are no more than a limit: as many as it weighs, or, where that is more
+// than so much, as are counted.
+fn below<J: Judge>(
+    judge: &J,
+    search: &EventSearch,
+    stills: &StillList,
+    leaf: Leaf,
+    light: u64,
+    limit: u64,
+) -> Option<u64>
+    requires rules { J.rules judge.now ≡ rules search.now }
+    requires weighed { IsWeighed search.now stills.now leaf }
+    ensures enough { IfSome result (λ count. leaf_count (rules search.now) leaf.node ≤ count) }
+    ensures few { IfSome result (λ count. count ≤ limit) }
+{
+    let weight = stills.weight(search, leaf);
+    if light < weight {
+        count_one(judge, leaf.node, limit)
+    } else if weight <= limit {
+        Some(weight)
+    } else {
+        None
+    }
+}
+
+// Whether those below all of them are no more than so many, where each that weighs more than so much is counted.
+fn are_few_by<J: Judge>(
+    judge: &J,
+    search: &EventSearch,
+    stills: &StillList,
+    leaves: &[Leaf],
+    light: u64,
+    most: u32,
+) -> bool
+    requires rules { J.rules judge.now ≡ rules search.now }
+    requires weighed { All (IsWeighed search.now stills.now) leaves.now }
+    ensures { IsTrue result → leaves_below search.now leaves.now ≤ most }
+{
+    let mut rest = u64::from(most);
+    for leaf in leaves.iter() {
+        match below(judge, search, stills, *leaf, light, rest) {
+            Some(count) => rest -= count,
+            None => return false,
+        }
+    }
+    true
+}
+
+/// Whether no more leaves of the tree of a search lie below leaves of a coarser tree than so many, as far as their weights
+/// tell. Where these are too much, but no more than twice as much, a count tells of those that weigh more than a fair share of
+/// half of it.
+pub(crate) fn are_few<J: Judge>(
+    judge: &J,
+    search: &EventSearch,
+    stills: &StillList,
+    leaves: &[Leaf],
+    most: u32,
+) -> bool
+    requires rules { J.rules judge.now ≡ rules search.now }
+    requires weighed { All (IsWeighed search.now stills.now) leaves.now }
+    ensures { IsTrue result → leaves_below search.now leaves.now ≤ most }
+{
+    if are_few_by(judge, search, stills, leaves, u64::MAX, most) {
+        return true;
+    }
+    if !are_few_by(
+        judge,
+        search,
+        stills,
+        leaves,
+        u64::MAX,
+        most.saturating_mul(2),
+    ) {
+        return false;
+    }
+    let share = u64::from(most / 2) / (leaves.len() as u64 + 1);
+    are_few_by(judge, search, stills, leaves, share, most)
+}

@@ -2,7 +2,7 @@ use Rattle.spec_requests.specs.declared.request.Request.TheVariants.{Cert}
 use Rattle.spec_requests.specs.Requests.{search_by}
 use Rattle.gf_words.specs.Readings.{file_names_of, values_of}
 use Rattle.gf_words.proofs.Answering.{search_makes}
-use Rattle.gf_words.proofs.requests.cert.Goals as goal
+use Rattle.gf_words.proofs.requests.cert_request.Goals as goal
 
 pub returns : goal.returns
 returns c =

@@ -9,7 +9,6 @@ ghost use Rattle.body_states.specs.Dividers.{granule_seconds, AreDividers};
 
 use crate::factors::Factors;
 use crate::sources::{InUse, KEPT_COLUMNS};
-use column_steps::CoordinateSteps;
 use eph_model::{Body, Ephemeris};
 use ival_core::Divider;
 use spec_bodies::{Frame, Source};
@@ -27,8 +26,6 @@ pub struct BodyStates<'e> {
     pub(crate) observer: Source,
     pub(crate) frame: Frame,
     pub(crate) factors: Factors,
-    /// The steps of the targets' coordinates.
-    coordinates: CoordinateSteps,
     in_use: InUse,
     /// By the granules of the columns in use, in their order, as far as there are so many.
     dividers: [Divider; KEPT_COLUMNS],
@@ -65,13 +62,7 @@ impl<'e> Model for BodyStates<'e> {
         × (take s.in_use.count s.in_use.numbers ≡ columns_in_use s.first s.second s.observer)
         × (s.in_use.count ≤ 11)
         × AreFactors s.ephemeris.now.header.emrat s.factors
-        × AreDividers s.ephemeris.now (take s.in_use.count s.in_use.numbers) s.dividers
-        × (s.coordinates ≡ record {
-          first = s.first;
-          second = s.second;
-          observer = s.observer;
-          frame = s.frame;
-        }) };
+        × AreDividers s.ephemeris.now (take s.in_use.count s.in_use.numbers) s.dividers };
 }
 
 impl<'e> BodyStates<'e> {
@@ -96,12 +87,6 @@ impl<'e> BodyStates<'e> {
         let factors = Factors::new(ephemeris.header().emrat);
         let in_use = InUse::of(first, second, observer);
         let entries = entries_of(ephemeris, &in_use.numbers[..in_use.count]);
-        let coordinates = CoordinateSteps::new(Sight {
-            first,
-            second,
-            observer,
-            frame,
-        });
         BodyStates {
             dividers: dividers_of(ephemeris, &in_use.numbers[..in_use.count]),
             sharing: sharing_of(&entries),
@@ -112,7 +97,6 @@ impl<'e> BodyStates<'e> {
             observer,
             frame,
             factors,
-            coordinates,
             in_use,
         }
     }
@@ -127,13 +111,6 @@ impl<'e> BodyStates<'e> {
             observer: self.observer,
             frame: self.frame,
         }
-    }
-
-    /// The steps of the targets' coordinates.
-    pub(crate) fn coordinates(&self) -> &CoordinateSteps
-        ensures { result.now ≡ sight_of self.now }
-    {
-        &self.coordinates
     }
 
     /// The columns in use, counted from 1, in order and each once. One of the Earth and the Moon seen from the other is

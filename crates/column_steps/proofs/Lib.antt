@@ -5,4 +5,3 @@ mod Formulas
 mod Framed
 mod Turned
 pub mod Entered
-pub mod WholeFormulas

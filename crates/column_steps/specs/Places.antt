@@ -42,7 +42,3 @@ AreTargetPlaces l q target wanted p = AreAlong l q wanted p (coordinate_of l.sig
 -- for each coordinate that a term names a step stands
 abbrev pub ArePlaced : Listed → LeafPlaces → Term → Type 0
 ArePlaced l p e = (leaf : Leaf) → IsLeaf leaf → Names e leaf → Stands l (place_of p leaf) (of_leaf l.sight leaf)
-
--- for each coordinate of both targets one stands
-abbrev pub AreAllPlaced : Listed → LeafPlaces → Type 0
-AreAllPlaced l p = (leaf : Leaf) → IsLeaf leaf → Stands l (place_of p leaf) (of_leaf l.sight leaf)

@@ -3,10 +3,9 @@
 ghost use Rattle.std.specs.Prelude.{◌≡◌, ◌<◌, ℤ};
 ghost use Rattle.spec_intervals.specs.Fraction.{Fraction};
 ghost use Rattle.spec_intervals.specs.Enclosure.{IsEnclosure, AllFractions, IsSpan, AllWithin, Enclosure as Parts};
-ghost use Rattle.spec_expressions.specs.Term.{Leaf, position, velocity, IsLeaf, enclosure_of};
+ghost use Rattle.spec_expressions.specs.Term.{Leaf, position, velocity, IsLeaf};
 ghost use Rattle.event_expr.specs.States.{state_exponent};
 
-use crate::formula::Formula;
 use ival_core::Enclosure;
 
 /// A source of enclosures of each coordinate of two targets, over spans of times in ticks of TDB since J2000.
@@ -34,11 +33,6 @@ pub trait States {
         requires axis { axis < 3 }
         requires fits { fits self.now a b }
         ensures { result ≡ answer self.now (velocity target axis) a b };
-
-    /// The enclosure of a formula over the times from `a` to `b`, by the rules on what is returned for each coordinate.
-    fn enclosure(&self, f: &Formula, a: i64, b: i64) -> Enclosure
-        requires fits { fits self.now a b }
-        ensures { result ≡ enclosure_of (λ leaf. answer self.now leaf a b) a b f.now };
 
     /// The times that fit are in order, and at most 2^50 in magnitude.
     ghost spans: { (s : Self) (a b : ℤ) → fits s a b → IsSpan a b };

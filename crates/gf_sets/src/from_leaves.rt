@@ -11,7 +11,7 @@ ghost use Rattle.gf_sets.specs.Adding.{AreAdded};
 
 use crate::pair::Pair;
 use crate::spans::Spans;
-use event_expr::{Formula, States};
+use event_expr::{Formula, States, enclose};
 use ival_core::Sign;
 use spec_trees::{Leaf, Mark, Turn};
 use std::alloc::{AllocError, Global};
@@ -116,7 +116,7 @@ fn sign_at<S: States>(f: &Formula, states: &S, t: i64) -> Sign
     requires { S.fits states.now t t }
     ensures { result ≡ point_of (S.answer states.now) f.now t }
 {
-    states.enclosure(f, t, t).range.sign()
+    enclose(f, states, t, t).range.sign()
 }
 
 // After a rise the function is at least 0, after a fall it is not.

@@ -34,5 +34,4 @@ invariant_of-result c =
       c.of-in_use.ensures.few,
       rw c.header.ensures.same at c.new-factors.ensures,
       c.dividers_of.ensures,
-      c.new-coordinates.ensures,
     )

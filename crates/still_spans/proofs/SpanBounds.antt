@@ -16,9 +16,9 @@ use Rattle.still_spans.specs.declared.span_bound.SpanBound.{SpanBound}
 use Rattle.still_spans.specs.Knowledge.{IsBounded, side}
 use Rattle.still_spans.proofs.Margins.{fits_within}
 
-pub bounded_by : (s : Search) (p : Made) (c d c' d' : ℤ) (parts : Bool) → c' ≡ c → d' ≡ d → IsSearch s → Fits s.view c d → c <ℤ d → IsBound p (bound_over s.view s.event.function c d)
-    → IsBounded s (record { bound = p; first = c'; last = d'; has_parts = parts })
-bounded_by s p c d c' d' parts first last is fits several bound = record {
+pub bounded_by : (s : Search) (p : Made) (c d c' d' : ℤ) → c' ≡ c → d' ≡ d → IsSearch s → Fits s.view c d → c <ℤ d → IsBound p (bound_over s.view s.event.function c d)
+    → IsBounded s (record { bound = p; first = c'; last = d' })
+bounded_by s p c d c' d' first last is fits several bound = record {
   search = is;
   fits = rw (first, last) fits;
   several = rw (first, last) several;

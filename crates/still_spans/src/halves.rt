@@ -96,7 +96,7 @@ impl Walk {
     }
 
     /// Adds still spans from one time to another, given a bound over these times at least: the span itself, or those of its
-    /// halves, by a bound over it.
+    /// halves.
     pub(crate) fn add_halves(
         &mut self,
         search: &EventSearch,
@@ -131,8 +131,7 @@ impl Walk {
             return Ok(());
         };
         let middle = middle(a, b);
-        let here = over.within(search, a, b, DEEPEST.saturating_sub(depth));
-        self.add_halves(search, &known, &here, a, middle, depth - 1)?;
-        self.add_halves(search, &known, &here, middle, b, depth - 1)
+        self.add_halves(search, &known, over, a, middle, depth - 1)?;
+        self.add_halves(search, &known, over, middle, b, depth - 1)
     }
 }

@@ -21,15 +21,15 @@ use spec_stills::StillSpan;
 use spec_stills::margin_laws::margins_make_spans_still;
 use spec_stills::still_laws::monotone_spans_are_still;
 
-/// The most halvings of the nodes of a span of which no bound of its own is made.
-const MAX_PLAIN_HALVINGS: u32 = 1;
+/// How many leaves the spans of an ephemeris have together of which each is no heavier than its share by its length: half of
+/// those that a search may have.
+const SHARED_LEAVES: u64 = 1 << 24;
 
-/// How often a granule is halved at most where a bound is made for the halves.
-const MAX_BOUND_DEPTH: u32 = 6;
+/// How many leaves of a span are few in an ephemeris of one block: in a longer one so many fewer.
+const FEW_LEAVES: u64 = 1 << 18;
 
-/// The most blocks of an ephemeris of which no bounds over pieces of granules are made: what its pieces weigh by the bounds of
-/// granules mostly stays below the limit of leaves.
-const MAX_PLAIN_BLOCKS: u32 = 512;
+/// How large the share of a span is, at least, of which the halves are looked at where it is heavier.
+const MIN_HALVED_SHARE: u64 = 128;
 
 /// A bound of the function of a search over times of one granule.
 #[derive(Clone, Copy)]
@@ -37,8 +37,6 @@ pub(crate) struct SpanBound {
     pub(crate) bound: Bound,
     pub(crate) first: i64,
     pub(crate) last: i64,
-    /// Whether bounds over parts of its times are worth their cost. No promise rests on it.
-    pub(crate) has_parts: bool,
 }
 
 /// The bound of the function of a search over some times.
@@ -70,12 +68,7 @@ impl SpanBound {
         ensures last { result.last ≡ last }
     {
         search.is_search();
-        SpanBound {
-            bound,
-            first,
-            last,
-            has_parts: MAX_PLAIN_BLOCKS < search.ephemeris().blocks(),
-        }
+        SpanBound { bound, first, last }
     }
 
     // The bound over some times.
@@ -95,24 +88,6 @@ impl SpanBound {
         ensures { result ≡ is_one_way self.now.bound.step }
     {
         is_one_way(steps(&self.bound.step))
-    }
-
-    /// A bound over some of its times at least: itself where the function is monotone, where these are deep in a granule or the
-    /// ephemeris is short, and else that over these.
-    pub(crate) fn within(&self, search: &EventSearch, a: i64, b: i64, depth: u32) -> SpanBound
-        requires bounded { IsBounded search.now self.now }
-        requires from { self.now.first ≤ℤ a }
-        requires several { a <ℤ b }
-        requires upto { b ≤ℤ self.now.last }
-        ensures bounded { IsBounded search.now result }
-        ensures from { result.first ≤ℤ a }
-        ensures upto { b ≤ℤ result.last }
-    {
-        if !self.has_parts || MAX_BOUND_DEPTH < depth || self.is_monotone() {
-            *self
-        } else {
-            SpanBound::over(search, a, b)
-        }
     }
 
     // How wide a node of its times may be that is clear where the function keeps so far from 0, by its steps.
@@ -147,8 +122,8 @@ impl SpanBound {
         }
     }
 
-    /// The still span from one of its times to another, where the function keeps so far from 0 and the span is of use: by the
-    /// bound over these times alone, where nodes in it would be halved too often and the ephemeris is long.
+    /// The still span from one of its times to another, where the function keeps so far from 0 and the span is of use. Where
+    /// it would be heavy, it is by the bound over these times alone, and left to its halves where it still would be.
     pub(crate) fn still_by(
         &self,
         search: &EventSearch,
@@ -165,18 +140,29 @@ impl SpanBound {
         ensures { IfSome result (λ still. IsStillOver search.now a b still) }
     {
         let widest = self.widest(search, margin, a, b);
-        if !self.has_parts || is_plain(search, a, b, widest) {
+        if is_light(search, a, b, widest) {
             return useful(search, a, b, widest, side(margin));
         }
         let own = SpanBound::over(search, a, b);
         let wider = own.widest(search, margin, a, b);
+        if MIN_HALVED_SHARE <= share(search, a, b) && !is_light(search, a, b, wider) {
+            return None;
+        }
         useful(search, a, b, wider, side(margin))
     }
 }
 
-// Whether nodes from one time to another need few halvings until they are so wide, and those of a search are halved so far.
-fn is_plain(search: &EventSearch, a: i64, b: i64, widest: u64) -> bool {
-    search.width() <= widest && a.abs_diff(b) <= widest.saturating_mul(1 << MAX_PLAIN_HALVINGS)
+// How many leaves are the share of a span from one time to another, by its length.
+fn share(search: &EventSearch, a: i64, b: i64) -> u64 {
+    let ephemeris = search.ephemeris();
+    let ticks = ephemeris.start().abs_diff(ephemeris.end()) / SHARED_LEAVES;
+    a.abs_diff(b) / ticks.max(1)
+}
+
+// Whether a span from one time to another with nodes so wide has few leaves, or no more than its share.
+fn is_light(search: &EventSearch, a: i64, b: i64, widest: u64) -> bool {
+    let few = FEW_LEAVES / u64::from(search.ephemeris().blocks()).max(1);
+    a.abs_diff(b) <= widest.saturating_mul(share(search, a, b).max(few))
 }
 
 // The sign of numbers on its side of 0.

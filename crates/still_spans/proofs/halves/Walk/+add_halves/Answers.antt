@@ -41,8 +41,8 @@ add_halves-requires t c =
     let b = to_z-of_z w64 c.args.b c.ranges.b in
     let from = c.in-Some.ensures.from in
     let upto = c.in-Some.ensures.upto in
-    let bound_from = c.within-here.ensures.from in
-    let bound_upto = c.within-here.ensures.upto in (
+    let bound_from = c.requires.bound_from in
+    let bound_upto = c.requires.bound_upto in (
       search rules,
       (
         c.in-Some.ensures.known,
@@ -52,7 +52,7 @@ add_halves-requires t c =
             omega (arith, ints, a, m, after),
             (
               omega (arith, ints, b, m, before, upto),
-              (c.within-here.ensures.bounded, (omega (arith, ints, a, bound_from), omega (arith, ints, b, m, before, bound_upto))),
+              (c.requires.bounded, (omega (arith, ints, a, bound_from), omega (arith, ints, b, m, before, bound_upto))),
             ),
           ),
         ),
@@ -68,8 +68,8 @@ add_halves-requires-2 t c =
     let b = to_z-of_z w64 c.args.b c.ranges.b in
     let from = c.in-Some.ensures.from in
     let upto = c.in-Some.ensures.upto in
-    let bound_from = c.within-here.ensures.from in
-    let bound_upto = c.within-here.ensures.upto in (
+    let bound_from = c.requires.bound_from in
+    let bound_upto = c.requires.bound_upto in (
       search rules,
       (
         c.in-Some.ensures.known,
@@ -79,7 +79,7 @@ add_halves-requires-2 t c =
             omega (arith, ints, b, m, before),
             (
               omega (arith, ints, b, upto),
-              (c.within-here.ensures.bounded, (omega (arith, ints, a, m, after, bound_from), omega (arith, ints, b, bound_upto))),
+              (c.requires.bounded, (omega (arith, ints, a, m, after, bound_from), omega (arith, ints, b, bound_upto))),
             ),
           ),
         ),

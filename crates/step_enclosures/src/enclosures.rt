@@ -10,14 +10,14 @@ use column_steps::{StepList, fill};
 use ival_core::Enclosure;
 use std::marker::Model;
 
-/// The enclosures of the first steps of a list over the times of a snapshot, as far as there are slots, each made once: where
-/// one is asked for, it and those before it that are not made yet.
+/// The enclosures of the first steps of a list over the times of a snapshot, as far as there are slots. Each is
+/// made once. Where one is asked for, it is made with those before it that are not made yet.
 #[derive(Drop)]
 pub struct StepEnclosures<'w, 'r, 's, 'e> {
     states: &'r Snapshot<'s, 'e>,
     steps: &'r StepList,
     slots: &'w mut [Enclosure],
-    /// How many of the steps have theirs in their slots.
+    /// The number of the first steps whose enclosures stand in their slots.
     made: usize,
 }
 
@@ -41,7 +41,8 @@ impl<'w, 'r, 's, 'e> Model for StepEnclosures<'w, 'r, 's, 'e> {
 }
 
 impl<'w, 'r, 's, 'e> StepEnclosures<'w, 'r, 's, 'e> {
-    /// Those of the steps of a list over the times of a snapshot, of which none is made. The slots may hold anything.
+    /// Returns the enclosures of the steps of a list over the times of a snapshot, of which none is made. The slots
+    /// may hold anything.
     #[inline(always)]
     pub fn new(
         states: &'r Snapshot<'s, 'e>,
@@ -63,7 +64,7 @@ impl<'w, 'r, 's, 'e> StepEnclosures<'w, 'r, 's, 'e> {
         }
     }
 
-    /// What both targets are made of over the times.
+    /// Returns the snapshot over whose times the enclosures are made.
     #[inline(always)]
     pub fn states(&self) -> &'r Snapshot<'s, 'e>
         ensures { result.now ≡ self.now.moment }
@@ -71,7 +72,8 @@ impl<'w, 'r, 's, 'e> StepEnclosures<'w, 'r, 's, 'e> {
         self.states
     }
 
-    /// The enclosure over the times of the formula that a step stands for, by the number of the step, which has a slot.
+    /// Returns the enclosure over the times of the formula that a step stands for, by the number of the step. The
+    /// step must have a slot.
     #[inline(always)]
     pub fn enclosure(&mut self, place: usize) -> Enclosure
         requires step { place < step_count self.old.steps }
@@ -87,7 +89,7 @@ impl<'w, 'r, 's, 'e> StepEnclosures<'w, 'r, 's, 'e> {
         }
     }
 
-    // The enclosure that a step stands for, which is made with those before it that are not made yet.
+    // Returns the enclosure that a step stands for, and makes those before it that are not made yet.
     #[inline(never)]
     fn make(&mut self, place: usize) -> Enclosure
         requires step { place < step_count self.old.steps }

@@ -12,14 +12,14 @@ use crate::times::BoundTimes;
 use event_expr::rules::twice_size;
 use ival_core::Ival;
 
-/// The greatest exponent by which a sum of two intervals is finer than the coarser of both.
+/// The number of powers of 2 by which a range may be finer than what steps reach from it.
 const LIFT_LIMIT: i32 = 60;
 
 /// The least exponent of a range that is known to keep its unit by exponents alone.
 const FINE_EXPONENT: i32 = -58;
 
-/// What includes every value of a quantity over some times, and every change from one time to the next, as they are
-/// enclosed over any of these times.
+/// An interval that includes every value of a quantity over some times, and one that includes every change from one
+/// time to the next. Both include the enclosures over any of these times.
 #[derive(Clone, Copy)]
 pub struct Bound {
     pub range: Ival,
@@ -27,7 +27,8 @@ pub struct Bound {
 }
 
 impl<'t> BoundTimes<'t> {
-    /// A bound from its parts. Most ranges keep their unit, which exponents alone tell.
+    /// Returns the bound with a range and steps. Most ranges keep their unit, which exponents alone show; the
+    /// others are coarsened.
     pub fn bound(&self, range: Ival, step: Ival) -> Bound
         requires range { IsWithin wide_exponent range }
         requires step { IsWithin wide_exponent step }
@@ -40,7 +41,8 @@ impl<'t> BoundTimes<'t> {
         }
     }
 
-    // The same, by what is reached from any value by steps.
+    // Returns the bound with a range and steps. The range is coarsened to an exponent of at least 60 less than that
+    // of what steps reach from any value in it.
     fn coarsened(&self, range: Ival, step: Ival) -> Bound
         requires range { IsWithin wide_exponent range }
         requires step { IsWithin wide_exponent step }
@@ -51,7 +53,7 @@ impl<'t> BoundTimes<'t> {
         Bound { range, step }
     }
 
-    /// That of a constant.
+    /// Returns the bound of a constant: its range is the interval, and its steps are 0.
     pub fn constant(&self, value: Ival) -> Bound
         requires { IsWithin part_exponent value }
         ensures { IsBound result (constant_bound self.now.span.now.first self.now.span.now.last value) }
@@ -59,7 +61,7 @@ impl<'t> BoundTimes<'t> {
         self.bound(value, Ival::zero())
     }
 
-    /// The sum.
+    /// Returns a bound of the sum of two quantities, from a bound of each.
     pub fn sum(&self, x: Bound, y: Bound) -> Bound
         requires x_within { IsMadeWithin part_exponent x }
         requires y_within { IsMadeWithin part_exponent y }
@@ -71,7 +73,7 @@ impl<'t> BoundTimes<'t> {
         self.bound(range, step)
     }
 
-    /// The difference.
+    /// Returns a bound of the first quantity less the second, from a bound of each.
     pub fn difference(&self, x: Bound, y: Bound) -> Bound
         requires x_within { IsMadeWithin part_exponent x }
         requires y_within { IsMadeWithin part_exponent y }
@@ -83,7 +85,7 @@ impl<'t> BoundTimes<'t> {
         self.bound(range, step)
     }
 
-    /// The product.
+    /// Returns a bound of the product of two quantities, from a bound of each.
     pub fn product(&self, x: Bound, y: Bound) -> Bound
         requires x_within { IsMadeWithin part_exponent x }
         requires y_within { IsMadeWithin part_exponent y }
@@ -95,7 +97,7 @@ impl<'t> BoundTimes<'t> {
         self.bound(range, step)
     }
 
-    /// The signed square.
+    /// Returns a bound of the signed square `x |x|` of a quantity, from its bound.
     pub fn signed_square(&self, x: Bound) -> Bound
         requires { IsMadeWithin part_exponent x }
         ensures { (p : BoundOf) → IsBound x p
@@ -107,7 +109,7 @@ impl<'t> BoundTimes<'t> {
     }
 }
 
-// The exponent that is 60 below that of an interval.
+// Returns the exponent that is 60 below that of an interval.
 fn exponent_below(x: &Ival) -> i32
     requires { IsExponent x.now.s }
     ensures { result ≡ x.now.s -ℤ pos lift_limit }
@@ -115,7 +117,8 @@ fn exponent_below(x: &Ival) -> i32
     x.parts().2 - LIFT_LIMIT
 }
 
-// Exponents tell that a range keeps its unit beside its step: what is reached is less than 2^60 coarser.
+// Tells whether exponents alone show that a range keeps its unit beside its steps. What steps reach is then less
+// than 2^60 times coarser.
 fn is_fine(range: &Ival, step: &Ival) -> bool
     requires range { IsWithin wide_exponent range.now }
     requires step { IsWithin wide_exponent step.now }
@@ -124,7 +127,7 @@ fn is_fine(range: &Ival, step: &Ival) -> bool
     is_some(range) && FINE_EXPONENT <= exponent(range) && exponent(step) + 4 <= exponent(range)
 }
 
-// It is not 0 alone.
+// Tells whether an interval has a number other than 0.
 fn is_some(x: &Ival) -> bool
     ensures { IsTrue result → is_zero x.now ≡ false }
 {
@@ -132,7 +135,7 @@ fn is_some(x: &Ival) -> bool
     lo < 0 || 0 < hi
 }
 
-// The exponent of 2.
+// Returns the exponent of 2 of an interval's unit.
 fn exponent(x: &Ival) -> i32
     ensures { result ≡ x.now.s }
 {

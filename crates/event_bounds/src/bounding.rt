@@ -16,11 +16,11 @@ use event_expr::rules::TimeSpan;
 use ival_core::Ival;
 use spec_steps::laws::terms_mean_their_formulas;
 
-/// How many slots are cleared where these are enough, as they are for most formulas.
+/// The number of slots where these are enough, as they are for most formulas. Fewer slots take less time to clear.
 const FEW_STEPS: usize = 64;
 
-/// The bound of the formula for which a step of a list stands, over the times from `a` to `b`, in the unit of the times of the
-/// ephemeris that the states read. What is the same in several parts is made once.
+/// Returns the bound of the formula for which a step of a list stands, over the times from `a` to `b`. Times are in
+/// the unit of the ephemeris that the states read. Parts that are the same are bounded once.
 pub fn bound_over(listed: StepPlace, states: &BodyStates, a: i64, b: i64) -> Bound
     requires sight { listed.steps.now.sight ≡ sight_of states.now }
     requires step { listed.place < step_count listed.steps.now }
@@ -49,7 +49,7 @@ pub fn bound_over(listed: StepPlace, states: &BodyStates, a: i64, b: i64) -> Bou
     bound_of(&span, steps, place)
 }
 
-// The bound of the term of a step.
+// Returns the bound of the term of a step, by 64 slots where these are enough, and else by 256.
 fn bound_of(span: &Span, steps: &StepList, place: usize) -> Bound
     requires ready { IsSpanRight span.now }
     requires sight { steps.now.sight ≡ sight_of span.now.states.now }
@@ -64,7 +64,7 @@ fn bound_of(span: &Span, steps: &StepList, place: usize) -> Bound
     }
 }
 
-// The same by so many slots, one for it and for each before it.
+// Returns the bound of the term of a step by `N` slots, one for it and for each step before it.
 #[inline(never)]
 fn bound_by<const N: usize>(span: &Span, steps: &StepList, place: usize) -> Bound
     requires ready { IsSpanRight span.now }
@@ -79,7 +79,7 @@ fn bound_by<const N: usize>(span: &Span, steps: &StepList, place: usize) -> Boun
     slots[place]
 }
 
-// A bound to be written over.
+// Returns a bound to be written over, with 0 in both parts.
 fn blank() -> Bound {
     let zero = Ival::zero();
     Bound {

@@ -1,4 +1,4 @@
-// The rules by which the bound of a step over some times is made from those of earlier steps.
+// The rules by which the bound of a step over some times is made from the bounds of earlier steps.
 ghost use Rattle.spec_steps.specs.ColumnTerms.{sight_of};
 ghost use Rattle.event_bounds.specs.Spans.{IsAsked, IsBoundOf, IsSpanRight};
 
@@ -11,19 +11,19 @@ use ival_core::Ival;
 use spec_steps::laws::{listed_bounds_are_within_limits, listed_constants_are_within_limits};
 use spec_text::Decimal;
 
-/// What is seen of two bodies over some times, with what is known of their columns over these times.
+/// What is seen of two bodies over some times, with the ranges of their columns over these times.
 #[derive(Clone, Copy)]
 pub(crate) struct Span<'s, 't, 'e> {
     pub states: &'s BodyStates<'e>,
     pub times: BoundTimes<'t>,
-    /// Of positions.
+    /// The ranges of the columns' positions.
     pub position: &'s ColumnRanges<'s, 'e>,
-    /// Of velocities.
+    /// The ranges of the columns' velocities.
     pub velocity: &'s ColumnRanges<'s, 'e>,
 }
 
 impl<'s, 't, 'e> Span<'s, 't, 'e> {
-    // What is known of a quantity of the columns.
+    // Returns the ranges of a quantity of the columns.
     fn known(&self, quantity: Quantity) -> &ColumnRanges<'s, 'e>
         requires { IsSpanRight self.now }
         ensures { IsAsked self.now quantity result.now }

@@ -4,7 +4,7 @@ ghost use Rattle.spec_intervals.specs.Enclosure.{time_limit};
 
 use event_expr::rules::TimeSpan;
 
-/// The times over which bounds are made.
+/// The times over which bounds are made, from a first to a last, each at most 2^50 in magnitude.
 #[derive(Clone, Copy)]
 pub(crate) struct BoundTimes<'t> {
     pub span: &'t TimeSpan,

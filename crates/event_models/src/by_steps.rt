@@ -1,4 +1,4 @@
-// The models of steps of a list over the columns.
+// The models of the steps of a list over the columns.
 ghost use Rattle.std.specs.Prelude.{◌≡◌, ◌<◌, ◌≤◌, ◌<ℤ◌, IfSome, ℤ};
 ghost use Rattle.spec_intervals.specs.Interval.{Interval, product};
 ghost use Rattle.spec_bodies.specs.Views.{Fits};
@@ -22,13 +22,15 @@ use spec_steps::laws::{
 };
 use spec_text::Decimal;
 
-/// As many steps as those of most formulas, whose models find room in fewer slots than there are at most.
+/// The number of slots that is enough for the steps of most formulas. It is less than the most steps that a list
+/// may have.
 const FEW_STEPS: usize = 64;
 
-/// A model of a formula over the times from `c` to `d`, by the step that stands for it in a list: what is the same in several
-/// parts is made once. At each of these times it covers the interval of the formula, as its enclosure over that time alone has
-/// it. The ephemeris is that of the states. None is made where an exponent or an error passes its limit, a signed square is
-/// not seen to have one sign, or no row of the first four columns in use serves a column.
+/// Returns a model of a formula over the times from `c` to `d`, by the step that stands for it in a list. Parts
+/// that are the same are modelled once. At each of these times the model covers the interval of the formula, as its
+/// enclosure over that time alone has it. The ephemeris must be that of the states. None is returned where an
+/// exponent or an error passes its limit, or a signed square is not seen to have one sign. None is returned as well
+/// where no row of the first four columns in use serves a column.
 pub fn model_over(
     listed: StepPlace,
     ephemeris: &Ephemeris,
@@ -52,7 +54,7 @@ pub fn model_over(
     model_of(&span, listed.steps, listed.place)
 }
 
-// The model of what a step stands for.
+// Returns a model of the term of a step, or none. It uses 64 slots where these are enough, and else 256.
 fn model_of(span: &Span, steps: &StepList, place: usize) -> Option<Model>
     requires seen { IsSpanSeen span.now }
     requires sight { sight_of span.now.states.now ≡ steps.now.sight }
@@ -67,7 +69,7 @@ fn model_of(span: &Span, steps: &StepList, place: usize) -> Option<Model>
     }
 }
 
-// The same by so many slots, one for it and for each before it.
+// Returns a model of the term of a step, or none, by `N` slots: one for it and for each step before it.
 fn model_by<const N: usize>(span: &Span, steps: &StepList, place: usize) -> Option<Model>
     requires seen { IsSpanSeen span.now }
     requires sight { sight_of span.now.states.now ≡ steps.now.sight }
@@ -146,7 +148,8 @@ impl<'s, 'e> Arithmetic for Span<'s, 'e> {
 }
 
 impl<'s, 'e> Span<'s, 'e> {
-    // A model of the products of what two others cover.
+    // Returns a model of the products of what two others cover. None is returned where one of them is missing, or
+    // the product has no model.
     fn product_of(&self, x: &Option<Model>, y: &Option<Model>) -> Option<Model>
         ensures { (f g : ℤ → Interval)
             → IsIfMade self.now.times.first self.now.times.last x.now f

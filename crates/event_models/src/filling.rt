@@ -5,10 +5,10 @@ ghost use Rattle.event_models.specs.Rows.{AreEntriesBefore, AreRows, IsEntry, Is
 use crate::rows::{ENTRIES, Kind, Line, RowModel, next_row};
 use crate::starts::{first_row, second, sized};
 
-/// 1, in units of 2^-42.
+/// The number 1 in units of 2^-42.
 const ONE: u64 = 1 << 42;
 
-/// Makes the first `n` entries of a row.
+/// Makes the first `n` entries, at most 32, of the row of T or of U over a line of arguments.
 pub(crate) fn fill(kind: Kind, line: &Line, n: usize, rows: &mut [RowModel; ENTRIES])
     requires line { IsLine line.now }
     requires few { n ≤ 32 }
@@ -20,7 +20,7 @@ pub(crate) fn fill(kind: Kind, line: &Line, n: usize, rows: &mut [RowModel; ENTR
     }
 }
 
-// An entry, from those before.
+// Returns entry `k` of a row, from the entries before it.
 fn entry(kind: Kind, line: &Line, rows: &[RowModel; ENTRIES], k: usize) -> RowModel
     requires line { IsLine line.now }
     requires few { k < 32 }
@@ -38,7 +38,8 @@ fn entry(kind: Kind, line: &Line, rows: &[RowModel; ENTRIES], k: usize) -> RowMo
     }
 }
 
-// An entry after two.
+// Returns entry `k` of a row, 2 or later, from the two entries before it. Where their step has no model, only its
+// magnitude is used.
 fn later(kind: Kind, line: &Line, rows: &[RowModel; ENTRIES], k: usize) -> RowModel
     requires line { IsLine line.now }
     requires many { 2 ≤ k }
@@ -54,7 +55,8 @@ fn later(kind: Kind, line: &Line, rows: &[RowModel; ENTRIES], k: usize) -> RowMo
     }
 }
 
-// An entry, or one of which its size alone is known where that says more.
+// Returns a model of entry `k`: the row, or a model by the entry's greatest magnitude alone where the row's error
+// is above that.
 fn lesser(kind: Kind, row: RowModel, line: &Line, k: usize) -> RowModel
     requires few { k < 32 }
     requires row { IsRow row }
@@ -69,7 +71,7 @@ fn lesser(kind: Kind, row: RowModel, line: &Line, k: usize) -> RowModel
     }
 }
 
-// An entry of which its size alone is known.
+// Returns the model of entry `k` by its greatest magnitude alone.
 fn sized_entry(kind: Kind, line: &Line, k: usize) -> RowModel
     requires few { k < 32 }
     ensures row { IsRow result }
@@ -79,7 +81,7 @@ fn sized_entry(kind: Kind, line: &Line, k: usize) -> RowModel
     sized(greatest(kind, k))
 }
 
-// No number of an entry is greater in size.
+// Returns a number that no value of entry `k` passes in magnitude: 1 for T, and k + 1 for U.
 fn greatest(kind: Kind, k: usize) -> u64
     requires few { k < 32 }
     ensures equals { result ≡ greatest kind k }

@@ -1,4 +1,4 @@
-// The row of multiples of U, over which velocities are summed.
+// The row of the multiples k U_(k-1), over which velocities are summed.
 ghost use Rattle.std.specs.Prelude.{◌≤◌, ◌<◌, ◌-◌};
 ghost use Rattle.event_models.specs.declared.rows.Kind.TheVariants.{Second};
 ghost use Rattle.event_models.specs.Rows.{AreEntriesBefore, AreRows, AreSumRows, IsLine, IsSumRow};
@@ -8,7 +8,8 @@ use crate::filling::fill;
 use crate::multiples::{multiple, no_entry};
 use crate::rows::{ENTRIES, Kind, Line, RowModel};
 
-/// Makes the first `n` entries of the row of k U_(k-1), of which the first is 0: those of U, which are then replaced.
+/// Makes the first `n` entries, from 1 to 32, of the row of k U_(k-1), of which the first is 0. The entries of U
+/// are made first, and are then replaced.
 pub(crate) fn fill_slopes(line: &Line, n: usize, rows: &mut [RowModel; ENTRIES])
     requires line { IsLine line.now }
     requires some { 1 ≤ n }
@@ -20,7 +21,8 @@ pub(crate) fn fill_slopes(line: &Line, n: usize, rows: &mut [RowModel; ENTRIES])
     turn_slopes(line, n, rows);
 }
 
-// Replaces entries of U by those of the row of their multiples, from the last to the first.
+// Replaces the first `n` - 1 entries of U by the first `n` entries of the row of k U_(k-1), from the last to the
+// first.
 fn turn_slopes(line: &Line, n: usize, rows: &mut [RowModel; ENTRIES])
     requires few { n ≤ 32 }
     requires rows { AreRows (n - 1) rows.old }
@@ -34,7 +36,7 @@ fn turn_slopes(line: &Line, n: usize, rows: &mut [RowModel; ENTRIES])
     }
 }
 
-// An entry of it, from those of U.
+// Returns entry `k` of the row of k U_(k-1), from the entries of U.
 fn entry_slope(line: &Line, entries: &[RowModel; ENTRIES], k: usize) -> RowModel
     requires few { k < 32 }
     requires rows { AreRows k entries.now }

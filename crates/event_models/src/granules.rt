@@ -1,4 +1,4 @@
-// The granules of columns over some times, and the pairs of their axes.
+// The granules of columns over some times, and the rounded coefficients of their axes.
 ghost use Rattle.std.specs.Prelude.{◌≡◌, ◌<◌, ℕ, length, map};
 ghost use Rattle.spec_ephemeris.specs.Granules.{series_at, series_of};
 ghost use Rattle.spec_motions.specs.Enclosures.{coefficients_of};
@@ -12,7 +12,7 @@ use crate::times::ModelTimes;
 use body_states::{BodyStates, Ephemeris};
 use eph_model::{Granule, Rounded};
 
-/// The granule of a column in use in which some times lie.
+/// Returns the granule of a column in use in which some times lie.
 pub(crate) fn granule_of<'e>(
     states: &BodyStates,
     ephemeris: &'e Ephemeris,
@@ -29,7 +29,7 @@ pub(crate) fn granule_of<'e>(
     ephemeris.granule(number, times.first)
 }
 
-/// The pairs of the coefficients of an axis.
+/// Returns the coefficients of an axis of a granule as pairs of rounded numbers, in order.
 pub(crate) fn axis_pairs<'g>(granule: &Granule<'g>, axis: usize) -> &'g [Rounded]
     requires granule { IsEvaluable granule.now }
     requires axis { axis < granule.now.comps }

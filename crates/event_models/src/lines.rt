@@ -9,7 +9,8 @@ use crate::times::ModelTimes;
 use eph_model::Granule;
 use ival_core::Divider;
 
-/// The argument of a granule in the middle of some times within it, and by how much it grows from there to the end.
+/// Returns the argument of a granule in the middle of some times within it, and by how much it grows from there to
+/// the last of them. Both are in units of 2^-60.
 pub(crate) fn line_of(granule: &Granule, times: &ModelTimes) -> Line
     requires granule { IsGranuleOver times.now.first times.now.last granule.now }
     ensures within { IsLine result }
@@ -25,7 +26,7 @@ pub(crate) fn line_of(granule: &Granule, times: &ModelTimes) -> Line
     }
 }
 
-// `floor(z 2^60 / seconds)`.
+// Returns `floor(z 2^60 / seconds)`, at most 2^60 in magnitude.
 fn part(divider: &Divider, z: i64) -> i64
     requires small { unsigned_abs z ≤ divider.now }
     requires short { divider.now ≤ 2 ^ 40 }

@@ -7,7 +7,7 @@ ghost use Rattle.event_models.specs.Slopes.{IsMultiple, IsNothing};
 use crate::rows::RowModel;
 use span_models::TERMS;
 
-/// 0.
+/// Returns the entry of a row that is 0.
 pub(crate) fn no_entry() -> RowModel
     ensures row { IsSumRow result }
     ensures nothing { IsNothing result }
@@ -19,7 +19,7 @@ pub(crate) fn no_entry() -> RowModel
     }
 }
 
-/// `k` times an entry.
+/// Returns `k` times an entry of a row, with `k` below 32.
 pub(crate) fn multiple(row: &RowModel, k: usize) -> RowModel
     requires few { k < 32 }
     requires row { IsRow row.now }
@@ -33,7 +33,7 @@ pub(crate) fn multiple(row: &RowModel, k: usize) -> RowModel
     }
 }
 
-// `k` times each coefficient.
+// Returns `k` times each coefficient.
 fn numbers(coefficients: &[i64; TERMS], k: usize) -> [i64; TERMS]
     requires few { k < 32 }
     requires numbers { AreNumbers coefficients.now }
@@ -50,7 +50,7 @@ fn numbers(coefficients: &[i64; TERMS], k: usize) -> [i64; TERMS]
     numbers
 }
 
-// `k z`.
+// Returns `k z`.
 #[inline(always)]
 fn number(z: i64, k: usize) -> i64
     requires few { k < 32 }
@@ -61,7 +61,7 @@ fn number(z: i64, k: usize) -> i64
     k as i64 * z
 }
 
-// `k size`.
+// Returns `k size`.
 fn repeated(size: u64, k: usize) -> u64
     requires few { k < 32 }
     requires small { size ≤ 2 ^ 59 }

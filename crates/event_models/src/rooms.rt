@@ -1,4 +1,4 @@
-// The rows over some times for the granules of the columns in use.
+// The rows over some times that serve the granules of the columns in use.
 ghost use Rattle.std.specs.Prelude.{◌≡◌, ◌<◌};
 ghost use Rattle.spec_bodies.specs.Views.{Fits};
 ghost use Rattle.event_models.specs.Granules.{AreMade, AreRooms, IsAxisModel, IsGranuleOver};
@@ -11,17 +11,17 @@ use body_states::{BodyStates, Ephemeris, Quantity};
 use eph_model::Granule;
 use span_models::Model;
 
-/// How many rows are kept: two bodies and the observer are made of no more columns.
+/// The number of rows that are kept. Two bodies and the observer are made of no more columns.
 const KEPT_ROWS: usize = 4;
 
-/// The rows of a quantity for the granules of the first columns in use.
+/// The rows of a quantity for the granules of the first four columns in use.
 #[derive(Drop)]
 pub(crate) struct RowRooms {
     pub rooms: [RowRoom; KEPT_ROWS],
 }
 
 impl RowRooms {
-    /// The rows of a quantity, where steps read it.
+    /// Returns the rows of a quantity over some times. None is made where no step reads the quantity.
     pub fn new(
         states: &BodyStates,
         ephemeris: &Ephemeris,
@@ -40,7 +40,8 @@ impl RowRooms {
         RowRooms { rooms }
     }
 
-    /// A model of an axis of a granule, by the first row that serves it.
+    /// Returns a model of an axis of a granule, by the first row that serves the granule. None is returned where no
+    /// row does, or the row gives no model.
     pub fn model(
         &self,
         quantity: Quantity,
@@ -64,7 +65,8 @@ impl RowRooms {
     }
 }
 
-// Makes the rows of the granules of the first columns in use, one for all that begin and end together.
+// Makes the rows for the granules of the first four columns in use. One row serves all granules that begin and end
+// together.
 fn write_rooms(
     states: &BodyStates,
     ephemeris: &Ephemeris,
@@ -86,7 +88,7 @@ fn write_rooms(
     }
 }
 
-// Some row serves a granule.
+// Tells whether some row serves a granule.
 fn is_served(granule: &Granule, rooms: &[RowRoom; KEPT_ROWS]) -> bool {
     for place in 0..rooms.len() {
         let room = &rooms[place];
@@ -97,7 +99,7 @@ fn is_served(granule: &Granule, rooms: &[RowRoom; KEPT_ROWS]) -> bool {
     false
 }
 
-// Makes the row of a granule that no other serves.
+// Makes the row of a granule, unless another row serves the granule.
 fn write_room(
     granule: &Granule,
     times: &ModelTimes,

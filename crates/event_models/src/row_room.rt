@@ -1,4 +1,4 @@
-// Room for the row of a quantity, which all columns share whose granules begin and end together.
+// Room for the row of a quantity, which serves all granules that begin and end together.
 ghost use Rattle.std.specs.Prelude.{◌≡◌, IsTrue};
 ghost use Rattle.event_models.specs.Granules.{AreMade, IsGranuleOver, IsServed};
 
@@ -11,8 +11,8 @@ use body_states::Quantity;
 use eph_model::Granule;
 use span_models::TERMS;
 
-/// The row of a quantity, with the granules whose row it is: when these begin, how long they take, and how many entries are
-/// made.
+/// The row of a quantity. The start, the length in units of time and the number of entries say which granules it
+/// serves.
 #[derive(Clone, Copy)]
 pub(crate) struct RowRoom {
     pub start: i64,
@@ -22,7 +22,7 @@ pub(crate) struct RowRoom {
 }
 
 impl RowRoom {
-    /// Room in which no entry is made.
+    /// Returns room in which no entry is made.
     pub fn new() -> RowRoom
         ensures { result.entries ≡ 0 }
     {
@@ -39,14 +39,15 @@ impl RowRoom {
         }
     }
 
-    /// Whether its row is that of a granule.
+    /// Tells whether the row is made for granules with the start and the length of this one. It must have at least
+    /// as many entries as the granule has coefficients.
     pub fn serves(&self, granule: &Granule) -> bool
         ensures { IsTrue result → IsServed granule.now self.now }
     {
         granule.start == self.start && granule.seconds == self.seconds && granule.n <= self.entries
     }
 
-    /// Makes the row of a granule, with as many entries as that has coefficients.
+    /// Makes the row of a granule over some times, with one entry for each coefficient of the granule.
     pub fn make(&mut self, granule: &Granule, times: &ModelTimes, quantity: Quantity)
         requires granule { IsGranuleOver times.now.first times.now.last granule.now }
         ensures made { AreMade quantity times.now.first times.now.last self.new }

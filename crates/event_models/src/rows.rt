@@ -1,4 +1,4 @@
-// Models of the entries of a row, in a unit that all have in common.
+// Models of the entries of a row, all in one unit.
 ghost use Rattle.std.specs.Prelude.{◌≡◌, ◌≤◌, ◌<◌, ◌+◌, ◌*◌, ◌^◌, ◌/◌, ◌↔◌, ℕ, ℤ, All, IfSome, IsTrue, length, slice_index_or, pos, ◌+ℤ◌, ◌-ℤ◌, ◌*ℤ◌, unsigned_abs};
 ghost use Rattle.spec_numbers.specs.Numbers.{floor_div};
 ghost use Rattle.spec_models.specs.Models.{coefficient, sizes};
@@ -6,13 +6,14 @@ ghost use Rattle.event_models.specs.Rows.{AreNumbers, IsLine, IsRow, IsRowOf, Is
 
 use span_models::TERMS;
 
-/// The greatest size of a coefficient and of an error.
+/// The greatest magnitude of a coefficient and of an error.
 const LIMIT: u64 = 1 << 55;
 
-/// A whole row has so many entries.
+/// The number of entries of a whole row.
 pub(crate) const ENTRIES: usize = 32;
 
-/// A polynomial of the argument of a span, with a bound of error, and the sizes of its coefficients together.
+/// A polynomial of the argument of a span, with the sum of the magnitudes of its coefficients and a bound of its
+/// error.
 #[derive(Clone, Copy)]
 pub(crate) struct RowModel {
     pub coefficients: [i64; TERMS],
@@ -27,14 +28,15 @@ pub(crate) struct Line {
     pub slope: i64,
 }
 
-/// Chebyshev polynomials of the first kind, T, or of the second, U.
+/// The two kinds of Chebyshev polynomials: the first, T, and the second, U.
 #[derive(Clone, Copy)]
 pub(crate) enum Kind {
     First,
     Second,
 }
 
-/// The entry after two of a row, twice the argument times the last less the one before, where its numbers are not too large.
+/// Returns the next entry of a row: twice the argument times the last entry, less the entry before it. None is
+/// returned where a coefficient or the error is too large.
 pub(crate) fn next_row(line: &Line, last: &RowModel, before: &RowModel) -> Option<RowModel>
     requires line { IsLine line.now }
     requires last { IsRow last.now }
@@ -48,7 +50,8 @@ pub(crate) fn next_row(line: &Line, last: &RowModel, before: &RowModel) -> Optio
     )
 }
 
-// The model of these numbers, where none is too large.
+// Returns the model with these coefficients and this error. None is returned where one of these numbers is above
+// 2^55 in magnitude.
 fn row_of(coefficients: &[i64; TERMS], error: u64) -> Option<RowModel>
     requires count { length coefficients.now ≡ terms }
     ensures row { IfSome result IsRow }
@@ -65,20 +68,21 @@ fn row_of(coefficients: &[i64; TERMS], error: u64) -> Option<RowModel>
     }
 }
 
-// No number is too large.
+// Tells whether no number is above 2^55 in magnitude.
 fn are_small(numbers: &[i64]) -> bool
     ensures { IsTrue result ↔ All IsSmallNumber numbers.now }
 {
     numbers.iter().all(|z| is_small(*z))
 }
 
+// Tells whether a number is at most 2^55 in magnitude.
 fn is_small(z: i64) -> bool
     ensures { IsTrue result ↔ IsSmallNumber z }
 {
     z.unsigned_abs() <= LIMIT
 }
 
-// The sizes of the coefficients together.
+// Returns the sum of the coefficients' magnitudes.
 fn sizes_of(numbers: &[i64; TERMS]) -> u64
     requires { AreNumbers numbers.now }
     ensures equals { result ≡ sizes numbers.now }
@@ -91,7 +95,7 @@ fn sizes_of(numbers: &[i64; TERMS]) -> u64
     sum
 }
 
-// The coefficients of the step.
+// Returns the coefficients of the next entry of a row.
 fn step_numbers(line: &Line, last: &RowModel, before: &RowModel) -> [i64; TERMS]
     requires line { IsLine line.now }
     requires last { IsRow last.now }
@@ -107,7 +111,7 @@ fn step_numbers(line: &Line, last: &RowModel, before: &RowModel) -> [i64; TERMS]
     numbers
 }
 
-// A coefficient of it.
+// Returns coefficient `k` of the next entry of a row.
 #[inline(always)]
 fn number_at(line: &Line, last: &RowModel, before: &RowModel, k: usize) -> i64
     requires line { IsLine line.now }
@@ -123,7 +127,7 @@ fn number_at(line: &Line, last: &RowModel, before: &RowModel, k: usize) -> i64
     number(line, own, under, before.coefficients[k])
 }
 
-// A coefficient that is not the last.
+// Returns coefficient `k`, or 0 for the last one, whose magnitude goes into the error.
 #[inline(always)]
 fn inner(numbers: &[i64; TERMS], k: usize) -> i64
     requires numbers { AreNumbers numbers.now }
@@ -134,7 +138,7 @@ fn inner(numbers: &[i64; TERMS], k: usize) -> i64
     if k < TERMS - 1 { numbers[k] } else { 0 }
 }
 
-// The coefficient before.
+// Returns the coefficient before `k`, and 0 where there is none.
 #[inline(always)]
 fn below(numbers: &[i64; TERMS], k: usize) -> i64
     requires numbers { AreNumbers numbers.now }
@@ -145,7 +149,7 @@ fn below(numbers: &[i64; TERMS], k: usize) -> i64
     if k == 0 { 0 } else { inner(numbers, k - 1) }
 }
 
-// `floor((middle own + slope below) / 2^59) - before`.
+// Returns `floor((middle own + slope below) / 2^59) - before`.
 #[inline(always)]
 fn number(line: &Line, own: i64, below: i64, before: i64) -> i64
     requires line { IsLine line.now }
@@ -159,7 +163,7 @@ fn number(line: &Line, own: i64, below: i64, before: i64) -> i64
     halves(times(line.middle, own), times(line.slope, below)) - before
 }
 
-// `floor((a + b) / 2^59)`.
+// Returns `floor((a + b) / 2^59)`.
 #[inline(always)]
 fn halves(a: i128, b: i128) -> i64
     requires a { unsigned_abs a ≤ 2 ^ 115 }
@@ -170,7 +174,7 @@ fn halves(a: i128, b: i128) -> i64
     ((a + b) >> 59) as i64
 }
 
-// The product, by one multiplication of 64-bit numbers.
+// Returns `a b`, by one multiplication of 64-bit numbers.
 #[inline(always)]
 fn times(a: i64, b: i64) -> i128
     requires a { unsigned_abs a ≤ line_limit }
@@ -181,7 +185,7 @@ fn times(a: i64, b: i64) -> i128
     a as i128 * b as i128
 }
 
-// The error of the step.
+// Returns a bound of the error of the next entry of a row.
 fn step_error(line: &Line, last: &RowModel, before: &RowModel) -> u64
     requires line { IsLine line.now }
     requires last { IsRow last.now }
@@ -194,7 +198,7 @@ fn step_error(line: &Line, last: &RowModel, before: &RowModel) -> u64
     product + before.error + (TERMS as u64 + 3)
 }
 
-// `(spread own + 3 size + 3 own) / 2^59`.
+// Returns `(spread own + 3 size + 3 own) / 2^59`, rounded down.
 #[inline(always)]
 fn product_error(spread: u64, own: u64, size: u64) -> u64
     requires spread { spread ≤ 2 ^ 61 }

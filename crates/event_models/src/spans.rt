@@ -10,11 +10,11 @@ use crate::times::ModelTimes;
 use body_states::{BodyStates, Ephemeris, Quantity};
 use column_steps::StepPlace;
 
-/// Two bodies over some times, with the rows by which the columns that these are made of are modelled.
+/// Two bodies over some times, with the rows by which the columns of these bodies are modelled.
 #[derive(Drop)]
 pub(crate) struct Span<'s, 'e> {
     pub states: &'s BodyStates<'e>,
-    /// That of the states.
+    /// The ephemeris that the states read.
     pub ephemeris: &'s Ephemeris,
     pub times: ModelTimes,
     pub position: RowRooms,
@@ -22,7 +22,7 @@ pub(crate) struct Span<'s, 'e> {
 }
 
 impl<'s, 'e> Span<'s, 'e> {
-    /// The rows of the quantities that the steps up to one read.
+    /// Returns the span with the rows of the quantities that a step and those before it read.
     pub fn new(
         states: &'s BodyStates<'e>,
         ephemeris: &'s Ephemeris,
@@ -49,7 +49,7 @@ impl<'s, 'e> Span<'s, 'e> {
         }
     }
 
-    /// The rows of a quantity.
+    /// Returns the rows of a quantity.
     pub fn rows(&self, quantity: Quantity) -> &RowRooms
         requires { IsSpanSeen self.now }
         ensures { AreRooms quantity self.now.times.first self.now.times.last result.now.rooms }
@@ -61,7 +61,7 @@ impl<'s, 'e> Span<'s, 'e> {
     }
 }
 
-// The steps up to one read a quantity.
+// Tells whether a step of a list, or one before it, reads a quantity.
 fn is_read(listed: StepPlace, quantity: Quantity) -> bool
     requires { listed.place < step_count listed.steps.now }
 {

@@ -1,4 +1,4 @@
-// The first entries of the rows of T and U, and an entry of which its size alone is known.
+// The first entries of the rows of T and U, and an entry of which only the magnitude is known.
 ghost use Rattle.std.specs.Prelude.{◌≡◌, ◌≤◌, ◌-◌, ◌*◌, ◌^◌, ◌∷◌, pos, replicate, unsigned_abs};
 ghost use Rattle.spec_numbers.specs.Numbers.{floor_div};
 ghost use Rattle.event_models.specs.Rows.{IsFirst, IsLine, IsRow, IsSecond, IsSized, line_limit, row_limit, terms};
@@ -6,10 +6,10 @@ ghost use Rattle.event_models.specs.Rows.{IsFirst, IsLine, IsRow, IsSecond, IsSi
 use crate::rows::{Kind, Line, RowModel};
 use span_models::TERMS;
 
-/// 1, in units of 2^-42.
+/// The number 1 in units of 2^-42.
 const ONE: i64 = 1 << 42;
 
-/// That of 1, the first entry of both rows.
+/// Returns the model of 1, the first entry of both rows.
 pub(crate) fn first_row() -> RowModel
     ensures row { IsRow result }
     ensures first { IsFirst result }
@@ -17,7 +17,7 @@ pub(crate) fn first_row() -> RowModel
     of_two(ONE, 0, 2)
 }
 
-/// That of the argument, or of twice the argument.
+/// Returns the model of the second entry of a row: the argument for T, and twice the argument for U.
 pub(crate) fn second(kind: Kind, line: &Line) -> RowModel
     requires line { IsLine line.now }
     ensures row { IsRow result }
@@ -29,7 +29,7 @@ pub(crate) fn second(kind: Kind, line: &Line) -> RowModel
     }
 }
 
-// `floor(z / 2^k)`.
+// Returns `floor(z / 2^k)`.
 fn halved(z: i64, k: u32) -> i64
     requires small { unsigned_abs z ≤ line_limit }
     requires many { 17 ≤ k }
@@ -40,7 +40,7 @@ fn halved(z: i64, k: u32) -> i64
     z >> k
 }
 
-// The model of two coefficients.
+// Returns the model with a constant and a linear coefficient, with 0 in all others, and with an error.
 fn of_two(first: i64, second: i64, error: u64) -> RowModel
     requires first { unsigned_abs first ≤ 2 ^ 44 }
     requires second { unsigned_abs second ≤ 2 ^ 44 }
@@ -59,7 +59,8 @@ fn of_two(first: i64, second: i64, error: u64) -> RowModel
     }
 }
 
-/// That of an entry of which it is known alone that it is at most so great.
+/// Returns the model of an entry of which it is known only that its magnitude is at most `size`, which is at most
+/// 32.
 pub(crate) fn sized(size: u64) -> RowModel
     requires size { size ≤ 32 }
     ensures row { IsRow result }

@@ -8,15 +8,15 @@ use crate::rows::{ENTRIES, RowModel};
 use span_models::TERMS;
 use spec_ephemeris::Rounded;
 
-/// A polynomial with a bound of error, in 128 bits.
+/// A polynomial with a bound of its error, in 128 bits.
 #[derive(Clone, Copy)]
 pub(crate) struct Wide {
     pub coefficients: [i128; TERMS],
     pub error: u128,
 }
 
-/// The sum of coefficients from a place on times the entries of a row. None is made where a coefficient does not lie between
-/// two numbers next to each other.
+/// Returns the sum of the coefficients from a place on, each times its entry of a row. None is returned where the
+/// two roundings of a coefficient differ by more than one.
 pub(crate) fn sum_of(pairs: &[Rounded], rows: &[RowModel; ENTRIES], from: usize) -> Option<Wide>
     requires pairs { ArePairs pairs.now }
     requires rows { AreSumRows (length pairs.now) rows.now }
@@ -35,7 +35,7 @@ pub(crate) fn sum_of(pairs: &[Rounded], rows: &[RowModel; ENTRIES], from: usize)
     Some(wide)
 }
 
-// The ends of a coefficient are farther apart than by one.
+// Tells whether the two ends of a coefficient differ by more than one.
 fn is_wide(pair: Rounded) -> bool
     requires { IsPair pair }
     ensures { result ≡ false → pair.hi ≤ℤ (pair.lo +ℤ pos 1) }
@@ -44,7 +44,7 @@ fn is_wide(pair: Rounded) -> bool
 }
 
 impl Wide {
-    /// 0 alone.
+    /// Returns the sum of no products: 0, without an error.
     pub fn none() -> Wide
         ensures { result ≡ no_sum }
     {
@@ -54,7 +54,8 @@ impl Wide {
         }
     }
 
-    /// Adds a coefficient times an entry, where the coefficient is a number or lies between two next to each other.
+    /// Adds a coefficient times an entry of a row. The coefficient is its lower end, or lies between this and the
+    /// next number. At most `count` products are in the sum already.
     pub fn add(&mut self, pair: Rounded, row: &RowModel, count: usize)
         requires few { count < 32 }
         requires within { IsWideWithin count self.old }
@@ -68,7 +69,7 @@ impl Wide {
     }
 }
 
-// Adds a coefficient times those of an entry to those of the sum.
+// Adds a number times the coefficients of an entry to the coefficients of the sum.
 #[inline(always)]
 fn add_numbers(numbers: &mut [i128; TERMS], low: i64, row: &RowModel, count: usize)
     requires few { count < 32 }
@@ -86,7 +87,7 @@ fn add_numbers(numbers: &mut [i128; TERMS], low: i64, row: &RowModel, count: usi
     }
 }
 
-// `own + low entry`.
+// Returns `own + low entry`.
 #[inline(always)]
 fn sum(own: i128, low: i64, entry: i64, count: usize) -> i128
     requires few { count < 32 }
@@ -99,7 +100,7 @@ fn sum(own: i128, low: i64, entry: i64, count: usize) -> i128
     own + times(low, entry)
 }
 
-// The product, by one multiplication of 64-bit numbers.
+// Returns `low entry`, by one multiplication of 64-bit numbers.
 #[inline(always)]
 fn times(low: i64, entry: i64) -> i128
     requires low { unsigned_abs low ≤ 2 ^ 60 }
@@ -110,7 +111,7 @@ fn times(low: i64, entry: i64) -> i128
     low as i128 * entry as i128
 }
 
-// The error of the sum.
+// Returns a bound of the sum's error after a coefficient times an entry is added.
 #[inline(always)]
 fn sum_error(own: u128, low: i64, row: &RowModel, count: usize) -> u128
     requires few { count < 32 }

@@ -1,7 +1,7 @@
 // The times over which models are made.
 ghost use Rattle.std.specs.Prelude.{◌<ℤ◌};
 
-/// A first time and a later last one.
+/// The times over which models are made: a first time and a later last one.
 #[derive(Clone, Copy)]
 pub(crate) struct ModelTimes {
     pub first: i64,

@@ -1,4 +1,4 @@
-// Models of positions and velocities, from those of their sums.
+// Models of positions and velocities, from the models of their sums.
 ghost use Rattle.std.specs.Prelude.{◌≡◌, ◌<◌, ◌≤◌, ◌+◌, ◌*◌, ◌/◌, ◌^◌, pos, ◌+ℤ◌, ◌≤ℤ◌, unsigned_abs, IfSome};
 ghost use Rattle.spec_chebyshev.specs.Rows.{u_unit};
 ghost use Rattle.spec_ephemeris.specs.Series.{Series};
@@ -16,13 +16,14 @@ use eph_model::Granule;
 use ival_core::Ival;
 use span_models::{Model, settled};
 
-/// The exponent of 2 of a sum of coefficients times entries.
+/// The exponent of 2 of the unit of a sum of coefficients times entries.
 const SUM_EXPONENT: i32 = -24 - 42;
 
-/// That of a sum of coefficients times slopes, before it is divided.
+/// The exponent of 2 of the unit of a sum of coefficients times slopes, before it is divided.
 const SLOPE_EXPONENT: i32 = -24 - 50;
 
-/// A model of the position or velocity along an axis of a granule.
+/// Returns a model of the position or velocity along an axis of a granule, by a row that serves it. None is
+/// returned where the sum has no model, or the model passes its limits.
 pub(crate) fn axis_model(
     quantity: Quantity,
     granule: &Granule,
@@ -43,7 +44,7 @@ pub(crate) fn axis_model(
     }
 }
 
-// A model of the sum along an axis.
+// Returns a model of the sum of an axis's coefficients times the entries of a row, or none.
 fn sum_model(
     quantity: Quantity,
     granule: &Granule,
@@ -62,7 +63,7 @@ fn sum_model(
     settled(&wide.coefficients, wide.error, SUM_EXPONENT)
 }
 
-// The first coefficient that the row of a quantity serves.
+// Returns the place of the first coefficient that counts: 0 for positions, and 1 for velocities.
 fn place_of(quantity: Quantity) -> usize
     ensures equals { result ≡ first_place quantity }
     ensures few { result ≤ 1 }
@@ -73,7 +74,7 @@ fn place_of(quantity: Quantity) -> usize
     }
 }
 
-// A model of the position whose sum a model covers.
+// Returns a model of the position whose sum a model covers, or none where it passes its limits.
 fn position_of(sum: &Model) -> Option<Model>
     ensures { (s : Series) → IfSome result (IsValueOf Position s sum.now) }
 {
@@ -81,7 +82,8 @@ fn position_of(sum: &Model) -> Option<Model>
     sum.widened(64)
 }
 
-// A model of the velocity whose sum a model covers.
+// Returns a model of the velocity whose sum a model covers, for granules of some seconds. None is returned where it
+// passes its limits.
 fn velocity_of(sum: &Model, seconds: i64) -> Option<Model>
     requires long { pos 1 ≤ℤ seconds }
     ensures { (s : Series) → IsSeries s → s.duration ≡ unsigned_abs seconds
@@ -92,7 +94,7 @@ fn velocity_of(sum: &Model, seconds: i64) -> Option<Model>
     product.widened(units)
 }
 
-// A model of 2 / seconds times the numbers near a model.
+// Returns a model of 2 / seconds times the numbers near a model, or none where it passes its limits.
 fn scaled(sum: &Model, seconds: i64) -> Option<Model>
     requires long { pos 1 ≤ℤ seconds }
     ensures { IfSome result (ScalesTo (unsigned_abs seconds) sum.now) }
@@ -101,7 +103,8 @@ fn scaled(sum: &Model, seconds: i64) -> Option<Model>
     sum.product(&factor)
 }
 
-// How many units a velocity loses at most where it is rounded.
+// Returns the most units that a velocity loses where it is rounded. None is returned where exponents are too far
+// apart.
 fn lost_units(sum: &Model, product: &Model, seconds: i64) -> Option<u64>
     requires long { pos 1 ≤ℤ seconds }
     ensures { IfSome result (λ units. IsUpto units product.now
@@ -118,7 +121,7 @@ fn lost_units(sum: &Model, product: &Model, seconds: i64) -> Option<u64>
     }
 }
 
-// The greater of two exponents.
+// Returns the greater of two exponents.
 fn greater(a: i32, b: i32) -> i32
     requires a { unsigned_abs a ≤ 2 ^ 20 }
     requires b { unsigned_abs b ≤ 2 ^ 20 }
@@ -129,7 +132,7 @@ fn greater(a: i32, b: i32) -> i32
     if a < b { b } else { a }
 }
 
-// By how much one exponent is above another, and 0 where it is not.
+// Returns by how much the exponent `to` is above `from`, and 0 where it is not.
 fn gap(from: i32, to: i32) -> u32
     requires from { unsigned_abs from ≤ 2 ^ 20 }
     requires to { unsigned_abs to ≤ 2 ^ 20 }
@@ -139,7 +142,7 @@ fn gap(from: i32, to: i32) -> u32
     if from < to { (to - from) as u32 } else { 0 }
 }
 
-// `(2^(7 + raised) / seconds + 3) 2^lowered`.
+// Returns `(floor(2^(7 + raised) / seconds) + 3) 2^lowered`.
 fn units_of(raised: u32, lowered: u32, seconds: i64) -> u64
     requires raised { raised ≤ 41 }
     requires lowered { lowered ≤ 14 }
@@ -149,7 +152,7 @@ fn units_of(raised: u32, lowered: u32, seconds: i64) -> u64
     lifted(parts(lifted(128, raised), seconds) + 3, lowered)
 }
 
-// `z 2^k`.
+// Returns `z 2^k`.
 fn lifted(z: u64, k: u32) -> u64
     requires few { k ≤ 41 }
     requires small { z * 2 ^ k < 2 ^ 64 }
@@ -158,7 +161,7 @@ fn lifted(z: u64, k: u32) -> u64
     z << k
 }
 
-// `floor(z / seconds)`.
+// Returns `floor(z / seconds)`.
 fn parts(z: u64, seconds: i64) -> u64
     requires long { pos 1 ≤ℤ seconds }
     ensures equals { result ≡ z / unsigned_abs seconds }

@@ -1,4 +1,4 @@
-// What is known of conditions over one span of times.
+// The signs of conditions over one span of times.
 ghost use Rattle.std.specs.Prelude.{◌≡◌};
 ghost use Rattle.std.specs.List.{list_all, list_any};
 ghost use Rattle.spec_events.specs.Verdict.{certifies, is_certified, is_refuted};
@@ -14,7 +14,7 @@ use event_kinds::Guard;
 use ival_core::{Enclosure, Sign};
 use step_enclosures::{StepEnclosures, blank};
 
-/// The sign certifies what has to be at least 0, or below 0.
+/// Tells whether a sign certifies what has to be at least 0, or what has to be below 0.
 #[inline(always)]
 pub(crate) fn certifies(at_least: bool, sign: Sign) -> bool
     ensures { result ≡ certifies at_least sign }
@@ -26,7 +26,7 @@ pub(crate) fn certifies(at_least: bool, sign: Sign) -> bool
     }
 }
 
-// The enclosure of a formula over some times, by a list of its own.
+// Returns the enclosure of a formula over some times, by a list of steps of its own.
 #[inline(never)]
 fn own_enclosure(formula: &Formula, states: &Snapshot) -> Enclosure
     ensures { result ≡ enclosure_in states.now formula.now }
@@ -36,7 +36,8 @@ fn own_enclosure(formula: &Formula, states: &Snapshot) -> Enclosure
     StepEnclosures::new(states, &steps, &mut slots).enclosure(place)
 }
 
-// The sign of its formula at each of these times: by the step that stands for it, or by a list of its own where none does.
+// Returns the sign of a condition's formula over some times. It is made by the step that stands for the formula, or
+// by a list of its own where none does.
 #[inline(always)]
 fn sign(guard: &Guard, number: Option<usize>, made: &mut StepEnclosures) -> Sign
     requires listed { IsSlotOf made.old.steps made.old.room guard.now.term number }
@@ -49,7 +50,7 @@ fn sign(guard: &Guard, number: Option<usize>, made: &mut StepEnclosures) -> Sign
     }
 }
 
-// The condition holds at each of these times.
+// Tells whether a condition is known to hold at each of some times.
 #[inline(always)]
 fn is_certified(guard: &Guard, number: Option<usize>, made: &mut StepEnclosures) -> bool
     requires listed { IsSlotOf made.old.steps made.old.room guard.now.term number }
@@ -59,7 +60,7 @@ fn is_certified(guard: &Guard, number: Option<usize>, made: &mut StepEnclosures)
     certifies(guard.at_least(), sign(guard, number, made))
 }
 
-// It is false at each of them.
+// Tells whether a condition is known to be false at each of some times.
 #[inline(always)]
 fn is_refuted(guard: &Guard, number: Option<usize>, made: &mut StepEnclosures) -> bool
     requires listed { IsSlotOf made.old.steps made.old.room guard.now.term number }
@@ -69,7 +70,7 @@ fn is_refuted(guard: &Guard, number: Option<usize>, made: &mut StepEnclosures) -
     certifies(!guard.at_least(), sign(guard, number, made))
 }
 
-/// Each condition holds at each of these times.
+/// Tells whether each condition is known to hold at each of some times.
 pub(crate) fn are_certified(
     guards: &[Guard],
     listed: &ListedEvent,
@@ -88,7 +89,7 @@ pub(crate) fn are_certified(
     true
 }
 
-/// Some condition is false at each of them.
+/// Tells whether some condition is known to be false at each of some times.
 pub(crate) fn is_one_refuted(
     guards: &[Guard],
     listed: &ListedEvent,

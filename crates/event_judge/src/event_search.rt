@@ -24,9 +24,9 @@ pub struct EventSearch<'e> {
     event: Event,
     /// The coordinates that the event names.
     wanted: Leaves,
-    /// Those that its function names.
+    /// The coordinates that the event's function names.
     of_function: Leaves,
-    /// The steps of its function and of its conditions.
+    /// The steps of the event's function and of its conditions.
     listed: ListedEvent,
     width: u64,
     depth: u32,
@@ -59,8 +59,8 @@ impl<'e> Model for EventSearch<'e> {
 }
 
 impl<'e> EventSearch<'e> {
-    /// The search for an event of the two targets of the states, which read this ephemeris, where nodes are split down
-    /// to the width and to the depth, and are cut by the rule.
+    /// Returns the search for an event of the two targets of the states, which read this ephemeris. Nodes are split
+    /// down to the width and to the depth, and are cut by the rule.
     pub(crate) fn new(
         states: BodyStates<'e>,
         ephemeris: &'e Ephemeris,
@@ -95,7 +95,7 @@ impl<'e> EventSearch<'e> {
         }
     }
 
-    /// The states of the two bodies.
+    /// Returns the states of the two bodies.
     #[inline(always)]
     pub fn states(&self) -> &BodyStates<'e>
         ensures { result.now ≡ self.now.view }
@@ -103,7 +103,7 @@ impl<'e> EventSearch<'e> {
         &self.states
     }
 
-    /// The ephemeris that they read.
+    /// Returns the ephemeris that the states read.
     #[inline(always)]
     pub fn ephemeris(&self) -> &'e Ephemeris
         ensures { result.now ≡ self.now.view.ephemeris }
@@ -111,7 +111,7 @@ impl<'e> EventSearch<'e> {
         self.ephemeris
     }
 
-    /// The event.
+    /// Returns the event.
     #[inline(always)]
     pub fn event(&self) -> &Event
         ensures { result.now ≡ self.now.event }
@@ -119,19 +119,19 @@ impl<'e> EventSearch<'e> {
         &self.event
     }
 
-    /// The coordinates that its function or a guard of it names. No answer rests on them.
+    /// Returns the coordinates that the event's function or one of its conditions names. No result depends on them.
     #[inline(always)]
     pub(crate) fn wanted(&self) -> &Leaves {
         &self.wanted
     }
 
-    /// The coordinates that its function names. No answer rests on them.
+    /// Returns the coordinates that the event's function names. No result depends on them.
     #[inline(always)]
     pub(crate) fn of_function(&self) -> &Leaves {
         &self.of_function
     }
 
-    /// The step that stands for its function in a list of steps of what its states see.
+    /// Returns the step that stands for the event's function, in a list of steps over what the states see.
     pub fn function_step(&self) -> StepPlace<'_>
         ensures seen { result.steps.now.sight ≡ sight_of self.now.view }
         ensures made { IsMadeAt result.steps.now result.place
@@ -143,7 +143,7 @@ impl<'e> EventSearch<'e> {
         }
     }
 
-    /// The steps of its function and of its conditions.
+    /// Returns the steps of the event's function and of its conditions.
     #[inline(always)]
     pub(crate) fn listed(&self) -> &ListedEvent
         ensures { AreStepsOf (sight_of self.now.view) self.now.event result.now }
@@ -151,7 +151,7 @@ impl<'e> EventSearch<'e> {
         &self.listed
     }
 
-    /// The width down to which nodes are split, in units of the ephemeris's times.
+    /// Returns the width down to which nodes are split, in units of the ephemeris's times. It is at least 1.
     #[inline(always)]
     pub fn width(&self) -> u64
         ensures width { result ≡ self.now.width }
@@ -160,8 +160,8 @@ impl<'e> EventSearch<'e> {
         self.width
     }
 
-    /// What is known of it by its parts: the states read a checked ephemeris, the event has formulas, and the width is
-    /// at least 1. Nothing is done.
+    /// States what holds for a search by its parts: the states read a checked ephemeris, the event has formulas,
+    /// and the width is at least 1. Nothing is done.
     #[inline(always)]
     pub fn is_search(&self)
         ensures { IsSearch self.now }
@@ -170,7 +170,7 @@ impl<'e> EventSearch<'e> {
         let _function = self.event.function();
     }
 
-    /// The rule by which nodes are cut.
+    /// Returns the rule by which nodes are cut.
     #[inline(always)]
     pub fn rule(&self) -> CutRule
         ensures { result ≡ self.now.cut }
@@ -178,7 +178,7 @@ impl<'e> EventSearch<'e> {
         self.rule
     }
 
-    /// The depth down to which nodes are split.
+    /// Returns the depth down to which nodes are split.
     #[inline(always)]
     pub fn depth(&self) -> u32
         ensures { result ≡ self.now.depth }

@@ -12,7 +12,7 @@ use gf_hooks::Cutter;
 pub struct EventJudge<'e> {
     /// The search whose nodes are judged.
     pub search: EventSearch<'e>,
-    /// What cuts them, by the rule of the search.
+    /// The cutter of these nodes, by the rule of the search.
     pub cutter: Cutter,
     ghost same_rule: { cutter.rule ≡ search.cut },
     ghost sound: { IsSound (rules search) },

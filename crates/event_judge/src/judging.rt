@@ -1,4 +1,4 @@
-// What a judge says of the nodes of its search, and where it cuts them.
+// The verdicts of the judge of a search, and its cuts of nodes.
 ghost use Rattle.std.specs.Prelude.{◌≡◌, ◌≤ℤ◌, pos, true, unsigned_abs};
 ghost use Rattle.spec_trees.specs.declared.tree.Node.{Node};
 ghost use Rattle.spec_trees.specs.declared.tree.Turn.{Turn};
@@ -19,8 +19,8 @@ use event_kinds::Event;
 use gf_hooks::{Cutter, Judge, Node, Verdict};
 
 impl<'e> EventJudge<'e> {
-    /// The judge of the search for an event of the two targets of the states, which read this ephemeris. Nodes are
-    /// split down to the width and to the depth, and are cut by the cutter.
+    /// Returns the judge of the search for an event of the two targets of the states, which read this ephemeris.
+    /// Nodes are split down to the width and to the depth, and are cut by the cutter.
     pub fn new(
         states: BodyStates<'e>,
         eph: &'e Ephemeris,
@@ -48,8 +48,8 @@ impl<'e> EventJudge<'e> {
 }
 
 impl<'e> EventJudge<'e> {
-    /// Whether a valid node may be cut, whatever its verdict: it is wider than one unit of time, and a border falls
-    /// into it or it is not as deep as the depth of the search.
+    /// Tells whether a valid node may be cut, whatever its verdict. It must be wider than one unit of time, and a
+    /// border falls into it or it is not as deep as the depth of the search.
     pub fn may_be_cut(&self, node: Node) -> bool
         requires { IsValid (rules self.now.search) node }
         ensures { result ≡ may_be_cut self.now.search node }
@@ -61,7 +61,7 @@ impl<'e> EventJudge<'e> {
         .may_be_cut()
     }
 
-    /// The parts of a valid node that may be cut.
+    /// Returns the parts of a valid node that may be cut, by the cutter.
     pub fn parts(&self, node: Node) -> (Node, Node)
         requires valid { IsValid (rules self.now.search) node }
         requires may { may_be_cut self.now.search node ≡ true }
@@ -74,8 +74,8 @@ impl<'e> EventJudge<'e> {
         .parts(&self.cutter)
     }
 
-    /// What a search is holds for this one: its rules are sound, a node that is split may be cut, and the parts of a
-    /// valid node that may be cut are valid and cut it. Nothing is done.
+    /// States that what holds for a search holds for this one. Its rules are sound, and a node that is split may be
+    /// cut. The parts of a valid node that may be cut are valid and cut it. Nothing is done.
     pub fn nodes_may_be_cut(&self)
         ensures search { IsSearch self.now.search }
         ensures sound { IsSound (rules self.now.search) }
@@ -91,7 +91,7 @@ impl<'e> EventJudge<'e> {
 impl<'e> Judge for EventJudge<'e> {
     ghost rules = { λ judge. rules judge.search };
 
-    /// The verdict of a valid node: by enclosures alone, and true of the events.
+    /// Returns the verdict of a valid node, by enclosures alone. It holds for the events.
     fn judge(&self, node: Node) -> Verdict
         requires { IsValid (rules self.now.search) node }
         ensures verdict { result ≡ verdict_of self.now.search node }
@@ -108,6 +108,7 @@ impl<'e> Judge for EventJudge<'e> {
         .verdict()
     }
 
+    // Returns the parts of a node: cut at the border in it, or by the cutter where there is none.
     fn cut(&self, node: Node) -> (Node, Node) {
         ValidNode {
             search: &self.search,

@@ -7,20 +7,20 @@ use column_steps::StepList;
 use event_kinds::{Event, Guard};
 use spec_steps::Sight;
 
-/// The steps of the function of an event and then of its first two conditions, for what is seen, with the numbers of those that
-/// stand for them; none for a condition for which the list has no room.
+/// The steps of the function of an event and then of its first two conditions, for what is seen, with the numbers
+/// of the steps that stand for them. A condition for which the list has no room has no number.
 #[derive(Drop)]
 pub(crate) struct ListedEvent {
     pub steps: StepList,
     pub function: usize,
     pub first: Option<usize>,
     pub second: Option<usize>,
-    /// How many slots there are to be for values of the steps.
+    /// The number of slots for values of the steps.
     pub slots: SlotCount,
 }
 
 impl ListedEvent {
-    /// The steps of an event of what is seen.
+    /// Returns the steps of an event, for what is seen.
     pub fn new(event: &Event, sight: Sight) -> ListedEvent
         ensures { AreStepsOf sight event.now result }
     {
@@ -37,7 +37,8 @@ impl ListedEvent {
         }
     }
 
-    /// The number of the step that stands for the condition with a place, which counts from 0.
+    /// Returns the number of the step that stands for the condition with a place, which counts from 0. None is
+    /// returned where the list has no such step.
     #[inline(always)]
     pub fn guard(&self, place: usize) -> Option<usize>
         ensures { result ≡ place_of self.now place }
@@ -50,8 +51,8 @@ impl ListedEvent {
     }
 }
 
-// The number of the step that stands for the condition with a place, which is added; none where there is no such condition, or
-// no room for it.
+// Adds the condition with a place to a list of steps, and returns the number of the step that stands for it. None
+// is returned where there is no such condition, or no room for it.
 fn add_guard(steps: &mut StepList, guards: &[Guard], place: usize) -> Option<usize>
     ensures kept { KeepsSteps steps.old steps.new }
     ensures made { IsGuardAt steps.new guards.now place result }
@@ -64,7 +65,7 @@ fn add_guard(steps: &mut StepList, guards: &[Guard], place: usize) -> Option<usi
     }
 }
 
-// The greatest of the numbers of steps.
+// Returns the greatest of the numbers of three steps, of which the last two may be missing.
 fn last_place(function: usize, first: Option<usize>, second: Option<usize>) -> usize
     requires function { function < 256 }
     requires first { IfSome first (λ k. k < 256) }
@@ -77,7 +78,7 @@ fn last_place(function: usize, first: Option<usize>, second: Option<usize>) -> u
     later(later(function, first), second)
 }
 
-// The greater of the number of a step and that of another, if there is one.
+// Returns the greater of the number of a step and the number of another, if there is one.
 fn later(place: usize, other: Option<usize>) -> usize
     requires place { place < 256 }
     requires other { IfSome other (λ k. k < 256) }

@@ -1,4 +1,4 @@
-// What is remembered of a search, in words that workers share: signs of its function, steady spans and quiet ones.
+// The memory of a search, in words that workers share: signs of its function, steady spans and quiet ones.
 ghost use Rattle.std.specs.Prelude.{◌≡◌, ◌+◌, IfSome, IsTrue};
 ghost use Rattle.spec_bounds.specs.Steady.{IsSteady, sign_at};
 ghost use Rattle.event_judge.specs.Memory.{IsNear, LiesInSteady, time_of};
@@ -14,36 +14,39 @@ use std::alloc::{AllocError, Global};
 use std::sync::atomic::Ordering::SeqCst;
 use std::sync::atomic::{AtomicIn, AtomicU64};
 
-/// How many signs are kept.
+/// The number of signs that are kept.
 const SIGNS: usize = 256;
 
-/// How many steady spans are kept, each by two words: one that begins with it, and one that ends with it.
+/// The number of steady spans that are kept. Each takes two words: one that begins with it, and one that ends with
+/// it.
 const SPANS: usize = 8;
 
-/// How many words for quiet spans are kept, of which each span takes two: one that begins with it, and one that ends with it.
+/// The number of words for quiet spans that are kept. Each span takes two: one that begins with it, and one that
+/// ends with it.
 const QUIETS: usize = 256;
 
 /// An odd number by which the places of words are spread.
 const SPREAD: u64 = 0x9E37_79B9_7F4A_7C15;
 
-/// What is remembered of a search: the sign of its function at some times, and some steady and some quiet spans. What is kept
-/// later may take the place of what was kept before. A wide span may be too wide by less than a unit for one word: then it is
-/// kept as two, which lie over one another, so that each of its halves lies in one of them.
+/// The memory of a search: the sign of its function at some times, and some steady and some quiet spans. What is
+/// kept later may take the place of what was kept before. A wide span may be too wide by less than a unit for one
+/// word. Then it is kept as two, which lie over one another, so that each of its halves lies in one of them.
 #[derive(Drop)]
 pub(crate) struct Memory<N: Naming> {
     signs: Vec<AtomicIn<OfSign<N>>>,
     spans: Vec<AtomicIn<OfSpan<N>>>,
-    /// The greatest width of a node that is tried whether it is a steady span. No answer rests on it.
+    /// The greatest width of a node for which it is tried whether it is a steady span. No result depends on it.
     widest: AtomicU64,
-    /// Each at the places of its first and of its last time.
+    /// The words for quiet spans, each at the places of its first and of its last time.
     quiets: Vec<AtomicIn<OfQuiet<N>>>,
-    /// Whether it is worth trying to find a quiet span.
+    /// The tries to find quiet spans, by which it is known whether one more is worth it.
     pub(crate) tries: Tries,
-    /// 1 where the last node that was judged by its enclosure had a turn between its ends, else 0. No answer rests on it.
+    /// The number 1 where the last node that was judged by its enclosure had a turn between its ends, else 0. No
+    /// result depends on it.
     turned: AtomicU64,
 }
 
-// Words that know no sign.
+// Returns the words for signs, of which none knows one. The only error is out of memory.
 fn no_signs<N: Naming>(alloc: Global) -> Result<Vec<AtomicIn<OfSign<N>>>, AllocError> {
     let mut words = Vec::with_capacity(alloc, SIGNS)?;
     for _ in 0..SIGNS {
@@ -52,7 +55,7 @@ fn no_signs<N: Naming>(alloc: Global) -> Result<Vec<AtomicIn<OfSign<N>>>, AllocE
     Ok(words)
 }
 
-// Words that know no span.
+// Returns the words for steady spans, of which none knows one. The only error is out of memory.
 fn no_spans<N: Naming>(alloc: Global) -> Result<Vec<AtomicIn<OfSpan<N>>>, AllocError> {
     let mut words = Vec::with_capacity(alloc, 2 * SPANS)?;
     for _ in 0..2 * SPANS {
@@ -61,7 +64,7 @@ fn no_spans<N: Naming>(alloc: Global) -> Result<Vec<AtomicIn<OfSpan<N>>>, AllocE
     Ok(words)
 }
 
-// Words that know no quiet span.
+// Returns the words for quiet spans, of which none knows one. The only error is out of memory.
 fn no_quiets<N: Naming>(alloc: Global) -> Result<Vec<AtomicIn<OfQuiet<N>>>, AllocError> {
     let mut words = Vec::with_capacity(alloc, QUIETS)?;
     for _ in 0..QUIETS {
@@ -70,14 +73,14 @@ fn no_quiets<N: Naming>(alloc: Global) -> Result<Vec<AtomicIn<OfQuiet<N>>>, Allo
     Ok(words)
 }
 
-// The place of the word for a number, of 2^8 places.
+// Returns the place of the word for a number, of 2^8 places.
 #[inline(always)]
 fn place_of(number: u64) -> usize {
     (number.wrapping_mul(SPREAD) >> 56) as usize
 }
 
 impl<N: Naming> Memory<N> {
-    /// A memory of nothing.
+    /// Returns a memory of nothing. The only error is out of memory.
     pub(crate) fn new(alloc: Global) -> Result<Memory<N>, AllocError> {
         Ok(Memory {
             signs: no_signs::<N>(alloc)?,
@@ -89,7 +92,7 @@ impl<N: Naming> Memory<N> {
         })
     }
 
-    /// The sign of the function at a time, where it is known.
+    /// Returns the sign of the function at a time, where it is remembered; else none.
     #[inline(always)]
     pub(crate) fn sign(&self, time: i64) -> Option<Sign>
         requires { IsNear time }
@@ -101,7 +104,7 @@ impl<N: Naming> Memory<N> {
         }
     }
 
-    /// Keeps the sign of the function at a time.
+    /// Keeps the sign of the function at a time. It may take the place of another.
     #[inline(always)]
     pub(crate) fn keep_sign(&self, time: i64, sign: Sign)
         requires near { IsNear time }
@@ -112,7 +115,8 @@ impl<N: Naming> Memory<N> {
         }
     }
 
-    /// Whether it is known that the times, each so many after the first of the ephemeris, lie within a steady span.
+    /// Tells whether the times from `from` to `upto` are known to lie within a steady span. Both are counted from
+    /// the first time of the ephemeris.
     #[inline(always)]
     pub(crate) fn lies_in_steady(&self, from: u64, upto: u64) -> bool
         ensures { IsTrue result
@@ -126,18 +130,18 @@ impl<N: Naming> Memory<N> {
         false
     }
 
-    /// Whether it is likely that the next node of which nothing is remembered has a turn between its ends.
+    /// Tells whether the next node of which nothing is remembered is likely to have a turn between its ends.
     pub(crate) fn expects_turn(&self) -> bool {
         self.turned.load(SeqCst) == 1
     }
 
-    /// Keeps whether such a node had one.
+    /// Keeps whether a node of which nothing was remembered had a turn between its ends.
     pub(crate) fn keep_turn(&self, turns: bool) {
         self.turned.store(u64::from(turns), SeqCst);
     }
 
-    /// Whether a node of some width is to be tried, whether it is a steady span. Where it is too wide, somewhat wider nodes are
-    /// tried from now on, so that the widths of later spans can be found again.
+    /// Tells whether it is to be tried whether a node of some width is a steady span. Where the node is too wide,
+    /// somewhat wider nodes are tried from now on, so that the widths of later spans can be found again.
     pub(crate) fn is_worth_trying(&self, width: u64) -> bool {
         let widest = self.widest.load(SeqCst);
         if width <= widest {
@@ -148,8 +152,8 @@ impl<N: Naming> Memory<N> {
         false
     }
 
-    /// Keeps how a node of some width was found: its parts are tried next where it is not a steady span, and nodes of twice
-    /// its width where it is.
+    /// Keeps whether a node of some width is a steady span. Nodes of twice its width are tried next where it is,
+    /// and its parts where it is not.
     pub(crate) fn keep_trial(&self, width: u64, is_steady: bool) {
         let widest = if is_steady {
             width.saturating_mul(2).saturating_add(2)
@@ -159,8 +163,8 @@ impl<N: Naming> Memory<N> {
         self.widest.store(widest, SeqCst);
     }
 
-    // Remembers at a place that the search is steady over `width` times from the one that is `offset` times after the first of
-    // the ephemeris.
+    // Keeps at a place that the search is steady over `width` times from the time `offset`, counted from the first
+    // time of the ephemeris.
     #[inline(always)]
     fn keep_part(&self, place: usize, offset: u64, width: u64)
         requires { LiesInSteady N.search (time_of N.search offset)
@@ -171,9 +175,9 @@ impl<N: Naming> Memory<N> {
         }
     }
 
-    /// Remembers that the search is steady over `width` times from the one that is `offset` times after the first of the
-    /// ephemeris. Nothing is promised: the span may take the place of another, and one too wide or too late for a word is
-    /// dropped.
+    /// Keeps that the search is steady over `width` times from the time `offset`, counted from the first time of
+    /// the ephemeris. Nothing is promised: the span may take the place of another, and one too wide or too late for
+    /// a word is dropped.
     pub(crate) fn keep_span(&self, offset: u64, width: u64)
         requires { IsSteady N.search (time_of N.search offset)
             (time_of N.search (offset + width)) }
@@ -185,8 +189,8 @@ impl<N: Naming> Memory<N> {
         }
     }
 
-    /// The sign over times, each so many after the first of the ephemeris, where it is known that they lie within a quiet span
-    /// that begins or ends at the first of them.
+    /// Returns the sign over the times from `from` to `upto`, where they are known to lie within a quiet span that
+    /// begins or ends at `from`; else none. Both are counted from the first time of the ephemeris.
     #[inline(always)]
     pub(crate) fn quiet_sign(&self, from: u64, upto: u64) -> Option<Sign>
         ensures { IfSome result (λ sign.
@@ -198,8 +202,8 @@ impl<N: Naming> Memory<N> {
         }
     }
 
-    /// Keeps a quiet span of some width with its sign, which begins so many times after the first of the ephemeris; says whether
-    /// there are words for it.
+    /// Keeps a quiet span of some width with its sign, which begins at `offset`, counted from the first time of the
+    /// ephemeris. Returns whether there are words for it.
     pub(crate) fn keep_quiet(&self, offset: u64, width: u64, sign: Sign) -> bool
         requires { HasSign N.search (time_of N.search offset) (time_of N.search (offset + width)) sign }
     {
@@ -213,7 +217,8 @@ impl<N: Naming> Memory<N> {
         }
     }
 
-    // Keeps a span within a quiet one with its sign at the place of a time; says whether there is a word for it.
+    // Keeps a span within a quiet one with its sign, at the place of a time. Returns whether there is a word for
+    // it.
     #[inline(always)]
     fn keep_quiet_part(&self, time: u64, offset: u64, width: u64, sign: Sign) -> bool
         requires { LiesInQuiet N.search (time_of N.search offset) (time_of N.search (offset + width)) sign }

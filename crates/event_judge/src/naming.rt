@@ -1,7 +1,7 @@
-// Of which search things are remembered.
+// The search of which things are remembered.
 use std::marker::Brand;
 
-/// Of which search things are remembered. A call of a program picks it.
+/// A name for the search of which things are remembered. A call of a program picks it.
 pub trait Naming {
     ghost use Rattle.spec_searches.specs.Search.{Search};
 

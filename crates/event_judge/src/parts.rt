@@ -9,7 +9,7 @@ use crate::valid_node::ValidNode;
 use gf_hooks::{Cutter, Node, rule_cut};
 use spec_searches::laws::searches_are_sound;
 
-// The two parts of a node that is cut at a time, at a depth.
+// Returns the two parts of a node that is cut at a time, both at a depth.
 fn parts_at(time: i64, depth: u32, node: Node) -> (Node, Node)
     ensures { result ≡ parts_at time depth node }
 {
@@ -27,7 +27,8 @@ fn parts_at(time: i64, depth: u32, node: Node) -> (Node, Node)
     )
 }
 
-// Where a node is cut into which a border falls: at the time before it, or at it where that time is the first.
+// Returns the time at which a node with a border in it is cut: the time before the border, or the border itself
+// where that time is the node's first.
 fn border_cut(node: Node, border: i64) -> i64
     requires { neg_ℤ (pos (2 ^ 60)) ≤ℤ border }
     ensures { result ≡ border_cut node border }
@@ -40,7 +41,8 @@ fn border_cut(node: Node, border: i64) -> i64
 }
 
 impl<'s, 'e> ValidNode<'s, 'e> {
-    /// The parts of a node that may be cut: at the border in it, at its own depth; or by the cutter, one deeper.
+    /// Returns the parts of a node that may be cut: at the border in it, at its own depth; or by the cutter, one
+    /// deeper.
     pub(crate) fn parts(self, cutter: &Cutter) -> (Node, Node)
         requires rule { cutter.now.rule ≡ self.search.now.cut }
         requires may { may_be_cut self.search.now self.node ≡ true }
@@ -55,7 +57,8 @@ impl<'s, 'e> ValidNode<'s, 'e> {
         }
     }
 
-    // The parts of a node that may be cut: at the border in it, at its own depth; or by the rule of the search, one deeper.
+    // Returns the parts of a node that may be cut: at the border in it, at its own depth; or by the rule of the
+    // search, one deeper.
     fn own_parts(self) -> (Node, Node)
         requires { may_be_cut self.search.now self.node ≡ true }
         ensures { result ≡ parts self.entry.search.now self.entry.node }
@@ -75,7 +78,7 @@ impl<'s, 'e> ValidNode<'s, 'e> {
 }
 
 impl<'e> EventSearch<'e> {
-    /// The parts of a valid node that may be cut, by the rule of the search.
+    /// Returns the parts of a valid node that may be cut, by the rule of the search.
     pub fn parts(&self, node: Node) -> (Node, Node)
         requires valid { IsValid (rules self.now) node }
         requires may { may_be_cut self.now node ≡ true }

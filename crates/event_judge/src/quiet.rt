@@ -1,4 +1,4 @@
-// Quiet spans: those in which a node lies, those that a node is, and those that begin where one ends.
+// Quiet spans: nodes that lie in one, nodes that are one, and spans that begin where another ends.
 ghost use Rattle.std.specs.Prelude.{◌≡◌, ◌<◌, ◌≤ℤ◌, All, IfSome, IsTrue, false, true};
 ghost use Rattle.spec_ephemeris.specs.Ephemeris.{end_of};
 ghost use Rattle.spec_ephemeris.specs.Header.{has_column};
@@ -17,7 +17,8 @@ use gf_hooks::{Node, has_no_turn};
 use ival_core::Sign;
 use spec_bounds::laws::quiet_spans_are_clear;
 
-// The last time before the next granule of one of some columns begins, or that of the ephemeris.
+// Returns the last time before the next granule of one of some columns begins, or the end of the ephemeris where
+// that is earlier.
 fn last_time(ephemeris: &Ephemeris, columns: &[usize], time: i64) -> i64
     requires present { All (λ column. IsTrue (has_column ephemeris.now.header column)) columns.now }
     requires block { 0 < ephemeris.now.blocks }
@@ -34,12 +35,14 @@ fn last_time(ephemeris: &Ephemeris, columns: &[usize], time: i64) -> i64
 }
 
 impl<'s, 'e> ValidNode<'s, 'e> {
-    // It reaches from a border or the begin of its tree's root to the next border or the root's end, and has several times.
+    // Tells whether the node has several units of time and the depth 0. It then reaches from a border or the start
+    // of its tree's root to the next border or the root's end.
     fn is_whole(self) -> bool {
         self.is_wide() && self.node.depth == 0
     }
 
-    // The node from its end on, up to the end of the granules there.
+    // Returns the node from this one's end to the end of the granules there. None is returned where they end at
+    // once.
     fn next(self) -> Option<ValidNode<'s, 'e>>
         ensures { IfSome result (λ next. IsNext self.entry.search.now self.entry.node
             next.search.now next.node) }
@@ -59,7 +62,7 @@ impl<'s, 'e> ValidNode<'s, 'e> {
         })
     }
 
-    // The sign of the function over it, where that is known by its bound.
+    // Returns the sign of the function over the node, where its bound shows one; else none.
     fn sign_by_bound(self) -> Option<Sign>
         requires { crosses self.search.now self.node ≡ false }
         ensures { IfSome result (λ sign. HasSign self.entry.search.now
@@ -71,7 +74,8 @@ impl<'s, 'e> ValidNode<'s, 'e> {
 }
 
 impl<N: Naming> Memory<N> {
-    // The sign over a node into which no border falls, where it is worth trying and is known by a bound. It is kept.
+    // Returns the sign over a node into which no border falls, where it is worth trying and a bound shows one; else
+    // none. The node is kept with its sign as a quiet span.
     fn try_node(&self, node: ValidNode) -> Option<Sign>
         requires named { node.search.now ≡ N.search }
         requires uncrossed { crosses node.search.now node.node ≡ false }
@@ -95,7 +99,7 @@ impl<N: Naming> Memory<N> {
         }
     }
 
-    // The sign over a node, where no border falls into it and it is found to be a quiet span.
+    // Returns the sign over a node, where no border falls into it and it is found to be a quiet span; else none.
     fn try_open(&self, node: ValidNode) -> Option<Sign>
         requires named { node.search.now ≡ N.search }
         ensures { IfSome result (λ sign. HasSign N.search
@@ -107,7 +111,7 @@ impl<N: Naming> Memory<N> {
         }
     }
 
-    /// Whether it is known that a node lies in a quiet span, so that it is clear.
+    /// Tells whether a node is known to lie in a quiet span, so that it is clear.
     pub(crate) fn knows_quiet(&self, node: ValidNode) -> bool
         requires named { node.search.now ≡ N.search }
         ensures { IsTrue result → verdict_of N.search node.entry.node ≡ Clear }
@@ -118,7 +122,8 @@ impl<N: Naming> Memory<N> {
         known.is_some()
     }
 
-    /// Whether a node into which no border falls is found to be a quiet span, so that it is clear.
+    /// Tells whether a node into which no border falls is found to be a quiet span, so that it is clear. Only a
+    /// node that reaches from a border or its root's start to the next border or the root's end is tried.
     pub(crate) fn finds_quiet(&self, node: ValidNode) -> bool
         requires named { node.search.now ≡ N.search }
         requires uncrossed { crosses node.search.now node.node ≡ false }
@@ -129,7 +134,8 @@ impl<N: Naming> Memory<N> {
         node.is_whole() && self.try_node(node).is_some()
     }
 
-    // The sign at the time that comes so many after the first of the ephemeris, where that is known to lie in a quiet span.
+    // Returns the sign at a time, counted from the first time of the ephemeris, where the time is known to lie in a
+    // quiet span; else none.
     fn quiet_at(&self, node: ValidNode, offset: u64) -> Option<Sign>
         requires named { node.search.now ≡ N.search }
         ensures { IfSome result (λ sign. sign_at N.search (time_of N.search offset) ≡ sign) }
@@ -139,7 +145,7 @@ impl<N: Naming> Memory<N> {
         self.quiet_sign(offset, offset)
     }
 
-    // The sign at the last time of a node, where a quiet span is found that begins there.
+    // Returns the sign at the last time of a node, where a quiet span is found that begins there; else none.
     fn next_first(&self, node: ValidNode) -> Option<Sign>
         requires named { node.search.now ≡ N.search }
         ensures { IfSome result (λ sign. sign_at N.search node.entry.node.b ≡ sign) }
@@ -152,7 +158,8 @@ impl<N: Naming> Memory<N> {
         }
     }
 
-    // The sign at the last time of a node, where that lies in a quiet span that is known or is found.
+    // Returns the sign at the last time of a node, where that lies in a quiet span that is known or is found; else
+    // none.
     fn last_or_next(&self, node: ValidNode) -> Option<Sign>
         requires named { node.search.now ≡ N.search }
         ensures { IfSome result (λ sign. sign_at N.search node.entry.node.b ≡ sign) }
@@ -163,7 +170,8 @@ impl<N: Naming> Memory<N> {
         }
     }
 
-    // Whether no turn that is wanted leads from a sign to that at the last time of a node, where that lies in a quiet span.
+    // Tells whether no turn that is wanted leads from a sign to the sign at the last time of a node, where that
+    // lies in a quiet span.
     fn leads_on(&self, node: ValidNode, first: Sign) -> bool
         requires named { node.search.now ≡ N.search }
         ensures { IsTrue result → has_no_turn N.search.event.dir
@@ -175,7 +183,8 @@ impl<N: Naming> Memory<N> {
         }
     }
 
-    // Whether a node from the end of a quiet span to the begin of another is found to have no turn that is wanted.
+    // Tells whether a node from the end of a quiet span to the start of another is found to have no turn that is
+    // wanted.
     fn finds_no_turn(&self, node: ValidNode) -> bool
         requires named { node.search.now ≡ N.search }
         ensures { IsTrue result → has_no_turn N.search.event.dir
@@ -187,7 +196,8 @@ impl<N: Naming> Memory<N> {
         }
     }
 
-    /// Whether a node of one unit into which a border falls is found to be clear by the quiet spans on both sides of it.
+    /// Tells whether a node of one unit into which a border falls is found to be clear by the quiet spans on both
+    /// sides of it.
     pub(crate) fn finds_clear(&self, node: ValidNode) -> bool
         requires named { node.search.now ≡ N.search }
         requires crossed { crosses node.search.now node.node ≡ true }

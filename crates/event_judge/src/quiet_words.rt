@@ -13,7 +13,7 @@ use std::sync::atomic::{AtomicIn, Rule};
 /// One more than the greatest word for a span beside which there is room for a sign.
 const SPAN_WORDS: u64 = 1 << 63;
 
-/// The rule of a word for a quiet span: the span that it says lies within a quiet one with the sign that it says.
+/// The rule of a word for a quiet span: the span in the word lies within a quiet one with the sign in the word.
 pub(crate) struct OfQuiet<N> {
     of: PhantomData<N>,
 }
@@ -24,12 +24,12 @@ impl<N: Naming> Rule for OfQuiet<N> {
     ghost invariant = { KeepsQuiet N.search };
 }
 
-/// A word that knows no quiet span.
+/// Returns a word that knows no quiet span.
 pub(crate) fn no_quiet<N: Naming>() -> AtomicIn<OfQuiet<N>> {
     AtomicIn::new(0)
 }
 
-// A sign that is known, as the last bit of a word.
+// Returns a known sign as the last bit of a word: 0 for `Yes`, and 1 for `No`.
 #[inline(always)]
 fn bit_of(sign: Sign) -> u64
     ensures { result ≡ bit_of sign }
@@ -40,7 +40,7 @@ fn bit_of(sign: Sign) -> u64
     }
 }
 
-// The sign of a word.
+// Returns the sign in a word.
 #[inline(always)]
 fn sign_in(word: u64) -> Sign
     ensures { result ≡ sign_in word }
@@ -51,7 +51,8 @@ fn sign_in(word: u64) -> Sign
     }
 }
 
-/// The word for a span within a quiet one, with the sign in it, where there is a word for the span and room beside it.
+/// Returns the word for a span within a quiet one, with the sign in it. None is returned where there is no word for
+/// the span, or no room beside it.
 #[inline(always)]
 pub(crate) fn quiet_word<N: Naming>(offset: u64, width: u64, sign: Sign) -> Option<u64>
     requires { LiesInQuiet N.search (time_of N.search offset) (time_of N.search (offset + width)) sign }
@@ -63,7 +64,7 @@ pub(crate) fn quiet_word<N: Naming>(offset: u64, width: u64, sign: Sign) -> Opti
     }
 }
 
-// The sign over times that lie within the quiet span of a word.
+// Returns the sign over times that lie within the quiet span of a word. None is returned for other times.
 #[inline(always)]
 fn sign_said<N: Naming>(word: u64, from: u64, upto: u64) -> Option<Sign>
     requires { KeepsQuiet N.search word }
@@ -77,7 +78,8 @@ fn sign_said<N: Naming>(word: u64, from: u64, upto: u64) -> Option<Sign>
     }
 }
 
-/// The sign over times, each so many after the first of the ephemeris, that lie within a quiet span that the word has.
+/// Returns the sign over the times from `from` to `upto`, counted from the first time of the ephemeris, that lie
+/// within a quiet span in the word. None is returned for other times.
 #[inline(always)]
 pub(crate) fn quiet_kept<N: Naming>(
     word: &AtomicIn<OfQuiet<N>>,

@@ -1,4 +1,4 @@
-// What a judge that remembers says of nodes, and where it cuts them.
+// The verdicts and the cuts of a judge that remembers.
 ghost use Rattle.std.specs.Prelude.{◌≡◌, IfOk};
 ghost use Rattle.spec_searches.specs.Found.{rules};
 
@@ -13,7 +13,7 @@ use std::alloc::{AllocError, Global};
 use std::marker::PhantomData;
 
 impl<'j, 'e, N: Naming, J: Judge> NamedJudge<'j, 'e, N, J> {
-    // The judge, whose rules are those of the search that a call has named.
+    // Returns the judge with its search, which a call has named and whose rules the judge has.
     fn new(judge: &'j J, search: &'j EventSearch<'e>) -> NamedJudge<'j, 'e, N, J>
         requires named { search.now ≡ N.search }
         requires rules { J.rules judge.now ≡ rules search.now }
@@ -29,8 +29,8 @@ impl<'j, 'e, N: Naming, J: Judge> NamedJudge<'j, 'e, N, J> {
 }
 
 impl<'j, 'e, N: Naming, J: Judge> RememberingJudge<'j, 'e, N, J> {
-    /// The judge that says what another does of the nodes of a search, which a call has named, and remembers nothing yet; or
-    /// `AllocError` where memory ran out.
+    /// Returns a judge of the nodes of a search, which a call has named. It says what another judge says of them,
+    /// and remembers nothing yet. The only error is out of memory.
     pub fn new(
         alloc: Global,
         judge: &'j J,
@@ -49,6 +49,7 @@ impl<'j, 'e, N: Naming, J: Judge> RememberingJudge<'j, 'e, N, J> {
 impl<'j, 'e, N: Naming + Send + Sync, J: Judge> Judge for RememberingJudge<'j, 'e, N, J> {
     ghost rules = { λ judge. J.rules judge.named.judge.now };
 
+    // Returns the verdict of a node, by what is remembered or anew.
     fn judge(&self, node: Node) -> Verdict {
         self.memory.judge(ValidNode {
             search: self.named.search,
@@ -56,6 +57,7 @@ impl<'j, 'e, N: Naming + Send + Sync, J: Judge> Judge for RememberingJudge<'j, '
         })
     }
 
+    // Returns the parts of a node, as the judge does for which this one stands.
     fn cut(&self, node: Node) -> (Node, Node) {
         self.named.judge.cut(node)
     }

@@ -1,4 +1,5 @@
-// What is remembered of a node: the signs at its ends, and the steady or quiet span that it lies in.
+// The verdicts of nodes by what is remembered: the signs at their ends, and the steady or quiet spans in which they
+// lie.
 ghost use Rattle.std.specs.Prelude.{◌≡◌, ◌≤◌, ◌-ℤ◌, IfSome, IsTrue, [], false, pos, true};
 ghost use Rattle.spec_events.specs.Verdict.{differ, is_known};
 ghost use Rattle.spec_searches.specs.Search.{crosses, verdict_of};
@@ -20,7 +21,7 @@ use ival_core::{Enclosure, Sign};
 use spec_bounds::laws::{ends_that_differ, middles_are_told, steady_spans_tell_verdicts};
 use step_enclosures::blank;
 
-// It is one of the two that are known.
+// Tells whether a sign is known: `Yes` or `No`.
 #[inline(always)]
 fn is_known(sign: Sign) -> bool
     ensures { result ≡ is_known sign }
@@ -32,56 +33,56 @@ fn is_known(sign: Sign) -> bool
 }
 
 impl<'s, 'e> ValidNode<'s, 'e> {
-    // The sign of the function at its first time.
+    // Returns the sign of the function at the node's first time.
     fn first_sign(self) -> Sign
         ensures { result ≡ sign_at self.entry.search.now self.entry.node.a }
     {
         self.sign(&self.first())
     }
 
-    // The sign of the function at its last time.
+    // Returns the sign of the function at the node's last time.
     fn last_sign(self) -> Sign
         ensures { result ≡ sign_at self.entry.search.now self.entry.node.b }
     {
         self.sign(&self.last_of_function())
     }
 
-    // The time halfway, or the last before it.
+    // Returns the time halfway from the first to the last, rounded down.
     fn middle(self) -> i64
         ensures { result ≡ middle self.entry.node.a self.entry.node.b }
     {
         (self.node.a + self.node.b).div_euclid(2)
     }
 
-    /// How many times after the first of the ephemeris it begins.
+    /// Returns the node's first time, counted from the first time of the ephemeris.
     pub(crate) fn first_offset(self) -> u64
         ensures { pos result ≡ self.entry.node.a -ℤ self.entry.search.now.view.ephemeris.start }
     {
         (self.node.a - self.search.ephemeris().start()).unsigned_abs()
     }
 
-    /// How many times after the first of the ephemeris it ends.
+    /// Returns the node's last time, counted from the first time of the ephemeris.
     pub(crate) fn last_offset(self) -> u64
         ensures { pos result ≡ self.entry.node.b -ℤ self.entry.search.now.view.ephemeris.start }
     {
         (self.node.b - self.search.ephemeris().start()).unsigned_abs()
     }
 
-    // Whether signs at its ends that differ leave nothing to decide but the limits.
+    // Tells whether signs that differ at the node's ends leave nothing to decide but the limits.
     fn is_plain(self) -> bool
         ensures { IsTrue result → IsPlain self.entry.search.now self.entry.node }
     {
         self.has_no_guard() && self.is_wide() && !self.is_narrow() && self.border().is_none()
     }
 
-    /// Whether the event has no conditions.
+    /// Tells whether the event has no conditions.
     pub(crate) fn has_no_guard(self) -> bool
         ensures { IsTrue result → self.entry.search.now.event.conditions ≡ [] }
     {
         self.search.event().guards().is_empty()
     }
 
-    // Whether the search is known to be steady over it.
+    // Tells whether the search is steady over the node, by bounds.
     fn is_steady(self) -> bool
         requires { crosses self.search.now self.node ≡ false }
         ensures { IsTrue result
@@ -93,7 +94,7 @@ impl<'s, 'e> ValidNode<'s, 'e> {
 }
 
 impl<N: Naming> Memory<N> {
-    /// The sign at the first time of a node, which is kept from now on.
+    /// Returns the sign at the first time of a node, and remembers it.
     pub(crate) fn first_sign(&self, node: ValidNode) -> Sign
         requires named { node.search.now ≡ N.search }
         ensures { result ≡ sign_at N.search node.entry.node.a }
@@ -108,7 +109,7 @@ impl<N: Naming> Memory<N> {
         }
     }
 
-    /// The sign at the last time of a node, which is kept from now on.
+    /// Returns the sign at the last time of a node, and remembers it.
     pub(crate) fn last_sign(&self, node: ValidNode) -> Sign
         requires named { node.search.now ≡ N.search }
         ensures { result ≡ sign_at N.search node.entry.node.b }
@@ -123,7 +124,7 @@ impl<N: Naming> Memory<N> {
         }
     }
 
-    // Whether it is known that a node lies in a steady span.
+    // Tells whether a node is known to lie in a steady span.
     fn knows_steady(&self, node: ValidNode) -> bool
         requires named { node.search.now ≡ N.search }
         ensures { IsTrue result → LiesInSteady N.search node.entry.node.a node.entry.node.b }
@@ -131,7 +132,8 @@ impl<N: Naming> Memory<N> {
         self.lies_in_steady(node.first_offset(), node.last_offset())
     }
 
-    // The verdict of a node that lies in a steady span, where the signs at its two ends are known.
+    // Returns the verdict of a node in a steady span, where the sign at each of its ends is `Yes` or `No`; else
+    // none.
     fn verdict_by_ends(&self, node: ValidNode) -> Option<Verdict>
         requires named { node.search.now ≡ N.search }
         requires steady { LiesInSteady N.search node.node.a node.node.b }
@@ -148,7 +150,7 @@ impl<N: Naming> Memory<N> {
         }
     }
 
-    // Whether the signs that are remembered at the two ends of a node differ in the direction that is wanted.
+    // Tells whether the signs that are remembered at the two ends of a node differ in the direction that is wanted.
     fn knows_turn(&self, node: ValidNode) -> bool
         requires named { node.search.now ≡ N.search }
         ensures { IsTrue result → differ N.search.event.dir
@@ -160,8 +162,8 @@ impl<N: Naming> Memory<N> {
         }
     }
 
-    // The verdict of a node whose ends are known to have signs that differ, which no condition can refute. It is looked at,
-    // whether it is a steady span.
+    // Returns the verdict of a node whose ends have signs that differ, which no condition can refute. The node is
+    // kept where it is found to be a steady span.
     fn verdict_by_turn(&self, node: ValidNode) -> Verdict
         requires named { node.search.now ≡ N.search }
         requires plain { IsPlain node.search.now node.node }
@@ -175,7 +177,7 @@ impl<N: Naming> Memory<N> {
         node.limit_verdict()
     }
 
-    // The verdict of a node, where what is remembered tells it.
+    // Returns the verdict of a node, where what is remembered shows it; else none.
     fn verdict(&self, node: ValidNode) -> Option<Verdict>
         requires named { node.search.now ≡ N.search }
         ensures { IfSome result (λ verdict. verdict ≡ verdict_of N.search node.entry.node) }
@@ -191,7 +193,7 @@ impl<N: Naming> Memory<N> {
         }
     }
 
-    // Keeps a node as a span, where it is worth trying and the search is known to be steady over it.
+    // Keeps a node as a span, where it is worth trying and the search is found to be steady over it.
     fn keep_node(&self, node: ValidNode)
         requires named { node.search.now ≡ N.search }
         requires open { crosses node.search.now node.node ≡ false }
@@ -207,7 +209,7 @@ impl<N: Naming> Memory<N> {
         }
     }
 
-    // Whether the signs at the two ends of a node differ in the direction that is wanted.
+    // Tells whether the signs at the two ends of a node differ in the direction that is wanted.
     fn turns(&self, node: ValidNode) -> bool
         requires named { node.search.now ≡ N.search }
         ensures { IsTrue result → differ N.search.event.dir
@@ -217,7 +219,8 @@ impl<N: Naming> Memory<N> {
         differ(node.search.event().dir(), first, last)
     }
 
-    // Looks at a node that is to be split, whether it is a steady span with a turn in it, to be kept.
+    // Keeps whether a node that is to be split has a turn between its ends. If so, the node is kept where it is
+    // found to be a steady span.
     fn learn(&self, node: ValidNode)
         requires named { node.search.now ≡ N.search }
         requires uncrossed { crosses node.search.now node.node ≡ false }
@@ -229,7 +232,7 @@ impl<N: Naming> Memory<N> {
         }
     }
 
-    // Keeps the sign of the function in the middle of a node, which the enclosure over the whole of it has.
+    // Keeps the sign of the function in the middle of a node, which the enclosure over the whole node has.
     fn keep_middle(&self, node: ValidNode, over: &Enclosure)
         requires named { node.search.now ≡ N.search }
         requires uncrossed { crosses node.search.now node.node ≡ false }
@@ -240,8 +243,8 @@ impl<N: Naming> Memory<N> {
         self.keep_sign(node.middle(), over.mid.sign());
     }
 
-    // The verdict of a node into which no border falls, by the enclosure over the whole of it. A node that is to be split is
-    // looked at.
+    // Returns the verdict of a node into which no border falls, by the enclosure over the whole node. Of a node
+    // that is to be split more is remembered.
     fn judge_over(&self, node: ValidNode) -> Verdict
         requires named { node.search.now ≡ N.search }
         requires uncrossed { crosses node.search.now node.node ≡ false }
@@ -256,8 +259,8 @@ impl<N: Naming> Memory<N> {
         }
     }
 
-    // Judges a node by the enclosure over all of it, with room for so many steps. Of one that is to be split the sign in its
-    // middle is kept.
+    // Returns the verdict of a node by the enclosure over the whole node, with `M` slots for steps. Of a node that
+    // is to be split the sign in its middle is kept, and whether it has a turn.
     #[inline(never)]
     fn judge_over_by<const M: usize>(&self, node: ValidNode, listed: &ListedEvent) -> Verdict
         requires named { node.search.now ≡ N.search }
@@ -281,8 +284,8 @@ impl<N: Naming> Memory<N> {
         verdict
     }
 
-    // The verdict of a node into which no border falls, of which nothing tells it that is remembered: where the last such node had a
-    // turn between its ends, the signs at the ends are asked first.
+    // Returns the verdict of a node into which no border falls, where nothing that is remembered shows it. Where
+    // the last such node had a turn between its ends, the signs at the ends are asked first.
     fn judge_open(&self, node: ValidNode) -> Verdict
         requires named { node.search.now ≡ N.search }
         requires uncrossed { crosses node.search.now node.node ≡ false }
@@ -297,7 +300,7 @@ impl<N: Naming> Memory<N> {
         }
     }
 
-    // The verdict of a node into which a border falls.
+    // Returns the verdict of a node into which a border falls.
     fn judge_border(&self, node: ValidNode) -> Verdict
         requires named { node.search.now ≡ N.search }
         requires crossed { crosses node.search.now node.node ≡ true }
@@ -310,7 +313,7 @@ impl<N: Naming> Memory<N> {
         }
     }
 
-    // The verdict of a node of which nothing tells it that is remembered.
+    // Returns the verdict of a node, where nothing that is remembered shows it.
     fn judge_anew(&self, node: ValidNode) -> Verdict
         requires named { node.search.now ≡ N.search }
         ensures { result ≡ verdict_of N.search node.entry.node }
@@ -321,7 +324,7 @@ impl<N: Naming> Memory<N> {
         }
     }
 
-    /// The verdict of a node: by what is remembered, or anew.
+    /// Returns the verdict of a node, by what is remembered or anew.
     pub(crate) fn judge(&self, node: ValidNode) -> Verdict
         requires named { node.search.now ≡ N.search }
         ensures { result ≡ verdict_of N.search node.entry.node }

@@ -9,7 +9,7 @@ use std::marker::PhantomData;
 use std::sync::atomic::Ordering::SeqCst;
 use std::sync::atomic::{AtomicIn, Rule};
 
-/// The rule of a word for a sign: the function has the sign that it says.
+/// The rule of a word for a sign: the function has this sign at the time in the word.
 pub(crate) struct OfSign<N> {
     of: PhantomData<N>,
 }
@@ -20,7 +20,7 @@ impl<N: Naming> Rule for OfSign<N> {
     ghost invariant = { KeepsSign N.search };
 }
 
-// The number that stands for a sign in a word.
+// Returns the number that stands for a sign in a word.
 #[inline(always)]
 fn code_of(sign: Sign) -> u64
     ensures { result ≡ code_of sign }
@@ -32,7 +32,7 @@ fn code_of(sign: Sign) -> u64
     }
 }
 
-// How far a time is after the first that a word can stand for.
+// Returns by how much a time is after -2^51, the first time that a word can stand for.
 #[inline(always)]
 fn after_first(time: i64) -> u64
     requires { IsNear time }
@@ -41,7 +41,7 @@ fn after_first(time: i64) -> u64
     (time + (1 << 51)).unsigned_abs()
 }
 
-// The word for a sign at a time.
+// Returns the word for a sign at a time.
 #[inline(always)]
 fn sign_word(time: i64, sign: Sign) -> u64
     requires { IsNear time }
@@ -50,12 +50,12 @@ fn sign_word(time: i64, sign: Sign) -> u64
     after_first(time) * 4 + code_of(sign)
 }
 
-/// A word that knows no sign.
+/// Returns a word that knows no sign.
 pub(crate) fn no_sign<N: Naming>() -> AtomicIn<OfSign<N>> {
     AtomicIn::new(0)
 }
 
-// What a word says of a time.
+// Returns the sign that a word has for a time, or none where it has none.
 #[inline(always)]
 fn sign_said<N: Naming>(word: u64, time: i64) -> Option<Sign>
     requires near { IsNear time }
@@ -73,7 +73,7 @@ fn sign_said<N: Naming>(word: u64, time: i64) -> Option<Sign>
     }
 }
 
-/// The sign at a time, where the word has it.
+/// Returns the sign at a time, where the word has it; else none.
 #[inline(always)]
 pub(crate) fn sign_kept<N: Naming>(word: &AtomicIn<OfSign<N>>, time: i64) -> Option<Sign>
     requires { IsNear time }

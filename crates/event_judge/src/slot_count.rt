@@ -1,8 +1,9 @@
-// How many slots there are for the values of steps.
+// The number of slots for the values of steps.
 ghost use Rattle.std.specs.Prelude.{◌<◌};
 ghost use Rattle.event_judge.specs.Listed.{slot_count};
 
-/// For the values of how many steps there are slots: few where few are wanted, since slots are cleared before they are used.
+/// The number of slots for the values of steps: few where few are wanted, since slots are cleared before they are
+/// used.
 #[derive(Clone, Copy)]
 pub(crate) enum SlotCount {
     Of32,
@@ -12,7 +13,7 @@ pub(crate) enum SlotCount {
 }
 
 impl SlotCount {
-    /// The fewest with one for the step with a number.
+    /// Returns the fewest slots with one for the step with a number.
     pub fn for_place(place: usize) -> SlotCount
         requires { place < 256 }
         ensures { place < slot_count result }

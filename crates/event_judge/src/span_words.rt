@@ -10,13 +10,14 @@ use std::sync::atomic::{AtomicIn, Rule};
 /// One more than the greatest number of units of the width of a span that is kept.
 const WIDTHS: u64 = 1 << 18;
 
-/// How many times a unit takes of the width of a span that is too wide for units of one.
+/// The number of times in a unit of the width of a span that is too wide for units of one.
 const UNIT: u64 = 1 << 14;
 
-/// One more than the latest beginning of a span that is kept.
+/// One more than the latest start of a span that is kept.
 const OFFSETS: u64 = 1 << 45;
 
-/// The width of the widest part of a span that a word can say, so far as its beginning and the greatest width let it.
+/// Returns the width of the widest part of a span for which there may be a word, as far as its start and the
+/// greatest width let it.
 #[inline(always)]
 pub(crate) fn kept_width(width: u64) -> u64
     ensures { result ≤ width }
@@ -28,7 +29,8 @@ pub(crate) fn kept_width(width: u64) -> u64
     }
 }
 
-// The word for a span whose width is so many units, of one time where the scale is 0, and else of many.
+// Returns the word for a span whose width is a number of units: of one time where the scale is 0, and else of 2^14
+// times.
 #[inline(always)]
 fn word_of(offset: u64, units: u64, scale: u64) -> u64
     requires early { offset < 2 ^ 45 }
@@ -39,7 +41,8 @@ fn word_of(offset: u64, units: u64, scale: u64) -> u64
     (offset * WIDTHS + units) * 2 + scale
 }
 
-// The word for a span whose width is a number of the greater units, where these are not too many.
+// Returns the word for a span whose width is a number of units of 2^14 times, where these are fewer than 2^18; else
+// none.
 #[inline(always)]
 fn wide_word(offset: u64, width: u64) -> Option<u64>
     requires early { offset < 2 ^ 45 }
@@ -53,8 +56,8 @@ fn wide_word(offset: u64, width: u64) -> Option<u64>
     }
 }
 
-/// The word for a span, where there is one: it begins early enough and is not too wide, and where it is wide its width is a
-/// number of the greater units.
+/// Returns the word for a span, or none. The span must begin early enough. Where it is too wide for units of one,
+/// its width must be a number of the greater units, and not too many.
 #[inline(always)]
 pub(crate) fn span_word(offset: u64, width: u64) -> Option<u64>
     ensures { IfSome result (λ word. IsWordOf word offset width) }
@@ -68,7 +71,7 @@ pub(crate) fn span_word(offset: u64, width: u64) -> Option<u64>
     }
 }
 
-// The width of so many units, of one time where the scale is 0, and else of many.
+// Returns the width of some units: of one time where the scale is 0, and else of 2^14 times.
 #[inline(always)]
 fn width_of(units: u64, scale: u64) -> u64
     requires { units < 2 ^ 18 }
@@ -81,7 +84,8 @@ fn width_of(units: u64, scale: u64) -> u64
     }
 }
 
-/// The times, each so many after the first of the ephemeris, lie within the span of a word.
+/// Tells whether the times from `from` to `upto`, counted from the first time of the ephemeris, lie within the span
+/// of a word.
 #[inline(always)]
 pub(crate) fn lies_in(word: u64, from: u64, upto: u64) -> bool
     ensures { IsTrue result → LiesInSpan word from upto }
@@ -91,7 +95,7 @@ pub(crate) fn lies_in(word: u64, from: u64, upto: u64) -> bool
     width > 0 && offset <= from && upto <= offset + width
 }
 
-/// The rule of a word for a span: the span that it says lies within a steady one.
+/// The rule of a word for a span: the span in the word lies within a steady one.
 pub(crate) struct OfSpan<N> {
     of: PhantomData<N>,
 }
@@ -102,12 +106,12 @@ impl<N: Naming> Rule for OfSpan<N> {
     ghost invariant = { KeepsSpan N.search };
 }
 
-/// A word that knows no span.
+/// Returns a word that knows no span.
 pub(crate) fn no_span<N: Naming>() -> AtomicIn<OfSpan<N>> {
     AtomicIn::new(0)
 }
 
-// The times lie within the steady span of a word.
+// Tells whether the times from `from` to `upto` lie within the steady span of a word.
 #[inline(always)]
 fn span_holds<N: Naming>(word: u64, from: u64, upto: u64) -> bool
     requires { KeepsSpan N.search word }
@@ -116,7 +120,8 @@ fn span_holds<N: Naming>(word: u64, from: u64, upto: u64) -> bool
     lies_in(word, from, upto)
 }
 
-/// The times, each so many after the first of the ephemeris, lie within a steady span that the word has.
+/// Tells whether the times from `from` to `upto`, counted from the first time of the ephemeris, lie within a steady
+/// span in the word.
 #[inline(always)]
 pub(crate) fn lies_in_span<N: Naming>(word: &AtomicIn<OfSpan<N>>, from: u64, upto: u64) -> bool
     ensures { IsTrue result → LiesInSteady N.search (time_of N.search from) (time_of N.search upto) }

@@ -1,4 +1,5 @@
-// Whether the signs at two ends, or one sign between them, tell the verdict of each node between them.
+// Steady spans and spans of one sign, by bounds: the signs at two ends, or one sign between them, show the verdict
+// of each node between them.
 ghost use Rattle.std.specs.Prelude.{◌≡◌, ◌↔◌, ◌<ℤ◌, All, IfNone, IfSome, IsTrue, false, true};
 ghost use Rattle.spec_bodies.specs.Views.{Fits};
 ghost use Rattle.spec_events.specs.Verdict.{is_known, is_one_way};
@@ -20,7 +21,7 @@ use event_expr::Formula;
 use event_kinds::Guard;
 use ival_core::Sign;
 
-// The sign, where it is one of the two that are known.
+// Returns the sign, where it is known: `Yes` or `No`. Else it returns none.
 fn known(sign: Sign) -> Option<Sign>
     ensures some { IfSome result (λ found. (found ≡ sign) × (is_known sign ≡ true)) }
     ensures none { IfNone result (is_known sign ≡ false) }
@@ -32,8 +33,8 @@ fn known(sign: Sign) -> Option<Sign>
 }
 
 impl<'e> EventSearch<'e> {
-    /// Whether the search is steady from one time to another, between which no granule begins, by the bounds of
-    /// its function and of its conditions.
+    /// Tells whether the search is steady from `a` to `b`, between which no granule begins, by the bounds of its
+    /// function and of its conditions.
     pub(crate) fn is_steady(&self, a: i64, b: i64) -> bool
         requires fits { Fits self.now.view a b }
         requires several { a <ℤ b }
@@ -42,7 +43,7 @@ impl<'e> EventSearch<'e> {
         self.leads_one_way(a, b) && self.are_certified(a, b)
     }
 
-    /// The bound of its function from one time to another, between which no granule begins.
+    /// Returns the bound of the event's function from `a` to `b`, between which no granule begins.
     pub fn function_bound(&self, a: i64, b: i64) -> Bound
         requires { Fits self.now.view a b }
         ensures { IsBound result (bound_over self.now.view self.now.event.function a b) }
@@ -50,7 +51,7 @@ impl<'e> EventSearch<'e> {
         bound_over(self.function_step(), self.states(), a, b)
     }
 
-    // By its bound the function is monotone.
+    // Tells whether the function is monotone from `a` to `b`, by its bound.
     fn leads_one_way(&self, a: i64, b: i64) -> bool
         requires { Fits self.now.view a b }
         ensures { result ≡ is_one_way (bound_over self.now.view self.now.event.function a b).step }
@@ -58,7 +59,7 @@ impl<'e> EventSearch<'e> {
         leads_one_way(self.function_bound(a, b).step)
     }
 
-    // The bound of a formula that has no step in its list, by a list of its own.
+    // Returns the bound of a formula that has no step in the event's list, by a list of its own.
     fn own_bound(&self, formula: &Formula, a: i64, b: i64) -> Bound
         requires { Fits self.now.view a b }
         ensures { IsBound result (bound_over self.now.view formula.now a b) }
@@ -69,7 +70,8 @@ impl<'e> EventSearch<'e> {
         bound_over(StepPlace { steps, place }, states, a, b)
     }
 
-    // The bound of a condition, by the step that stands for it, or by a list of its own where none does.
+    // Returns the bound of a condition's formula, by the step that stands for it, or by a list of its own where
+    // none does.
     fn guard_bound(
         &self,
         guard: &Guard,
@@ -90,7 +92,7 @@ impl<'e> EventSearch<'e> {
         }
     }
 
-    // By its bound a condition holds at each of the times.
+    // Tells whether a condition holds at each time from `a` to `b`, by its bound.
     fn is_certified(
         &self,
         guard: &Guard,
@@ -108,7 +110,7 @@ impl<'e> EventSearch<'e> {
         certifies(guard.at_least(), bound.range.sign())
     }
 
-    // By their bounds each condition holds at each of the times.
+    // Tells whether each condition holds at each time from `a` to `b`, by their bounds.
     fn are_certified(&self, a: i64, b: i64) -> bool
         requires { Fits self.now.view a b }
         ensures { IsTrue result
@@ -124,7 +126,8 @@ impl<'e> EventSearch<'e> {
         true
     }
 
-    /// The sign that the function has from one time to another, between which no granule begins, where its bound tells it.
+    /// Returns the sign that the function has from `a` to `b`, between which no granule begins, where its bound
+    /// shows one; else none.
     pub(crate) fn sign_over(&self, a: i64, b: i64) -> Option<Sign>
         requires fits { Fits self.now.view a b }
         requires several { a <ℤ b }

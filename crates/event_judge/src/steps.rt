@@ -1,4 +1,4 @@
-// What the steps of a function over some times tell of its turns there.
+// The steps of a function over some times, and what they show of its turns there.
 ghost use Rattle.std.specs.Prelude.{◌≡◌};
 ghost use Rattle.spec_intervals.specs.Signs.{sign_of};
 ghost use Rattle.spec_events.specs.Stages.{is_turnless};
@@ -8,7 +8,7 @@ use gf_hooks::Steps;
 use ival_core::{Enclosure, Ival};
 use spec_events::Dir;
 
-// The ends of the interval of the steps, in a unit of their own.
+// Returns the ends of the interval of the steps, in a unit of their own.
 #[inline(always)]
 fn steps(step: &Ival) -> Steps
     ensures lo { result.lo ≡ step.now.lo }
@@ -18,7 +18,7 @@ fn steps(step: &Ival) -> Steps
     Steps { lo, hi }
 }
 
-/// What has such steps is monotone.
+/// Tells whether a function with such steps is monotone.
 #[inline(always)]
 pub(crate) fn leads_one_way(step: Ival) -> bool
     ensures { result ≡ is_one_way step }
@@ -26,7 +26,7 @@ pub(crate) fn leads_one_way(step: Ival) -> bool
     gf_hooks::is_one_way(steps(&step))
 }
 
-/// It is monotone, so that its turns are known by the signs at the ends.
+/// Tells whether a function is monotone by its enclosure, so that its turns are known by the signs at the ends.
 #[inline(always)]
 pub(crate) fn is_one_way(over: &Enclosure) -> bool
     ensures { result ≡ is_one_way over.now.step }
@@ -34,7 +34,7 @@ pub(crate) fn is_one_way(over: &Enclosure) -> bool
     gf_hooks::is_one_way(steps(&over.step))
 }
 
-/// It has one sign over all times, or its steps lead against the direction that is wanted.
+/// Tells whether a function has one sign over all times, or its steps lead against the direction that is wanted.
 #[inline(always)]
 pub(crate) fn is_turnless(dir: Dir, over: &Enclosure) -> bool
     ensures { result ≡ is_turnless dir (sign_of over.now.range) over.now.step }

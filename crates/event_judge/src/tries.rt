@@ -1,24 +1,25 @@
-// Whether it is worth trying to find a span of some sort. No answer rests on it.
+// The tries to find spans of some sort, and whether one more is worth it. No result depends on it.
 use std::sync::atomic::AtomicU64;
 use std::sync::atomic::Ordering::SeqCst;
 
 /// Half the greatest number of tries of which one is made.
 const MAX_HALVED_TURN: u64 = 128;
 
-/// How tries to find spans of some sort went: where several fail one after the other, later ones are left out, and the more
-/// of them the more have failed. No answer rests on it.
+/// The tries to find spans of some sort. Where several fail one after the other, later ones are left out, and the
+/// more of them the more have failed. No result depends on it.
 #[derive(Drop)]
 pub(crate) struct Tries {
-    /// Of how many tries one is made: twice as many after each that fails, but after the first; 0 where the last did not fail.
+    /// The number of tries of which one is made: 1 after the first that fails, and twice as many after each further
+    /// one. It is 0 where the last did not fail.
     turn: AtomicU64,
-    /// How many are still to be left out.
+    /// The number of tries that are still to be left out.
     left: AtomicU64,
-    /// Where the span begins at which the last failed.
+    /// The start of the span of which the last try failed.
     failed: AtomicU64,
 }
 
 impl Tries {
-    /// None yet.
+    /// Returns the record of no try yet.
     pub(crate) fn new() -> Tries {
         Tries {
             turn: AtomicU64::new(0),
@@ -27,8 +28,8 @@ impl Tries {
         }
     }
 
-    /// Whether a span that begins so many times after the first of the ephemeris is to be tried. Where it is left out, that is
-    /// counted.
+    /// Tells whether a span is to be tried that begins at `offset`, counted from the first time of the ephemeris.
+    /// The span that failed last is not tried again. Any other try that is left out is counted.
     pub(crate) fn is_worth_trying(&self, offset: u64) -> bool {
         if self.failed.load(SeqCst) == offset {
             return false;
@@ -40,7 +41,7 @@ impl Tries {
         left == 0
     }
 
-    /// Keeps whether a span was found that begins so many times after the first of the ephemeris.
+    /// Keeps whether a span was found that begins at `offset`, counted from the first time of the ephemeris.
     pub(crate) fn keep(&self, offset: u64, is_found: bool) {
         if !is_found {
             self.keep_failure(offset);
@@ -49,7 +50,7 @@ impl Tries {
         }
     }
 
-    // Keeps that none was found there.
+    // Keeps that no span was found that begins at `offset`, and how many tries are left out for that.
     fn keep_failure(&self, offset: u64) {
         let turn = (self.turn.load(SeqCst).min(MAX_HALVED_TURN) * 2).max(1);
         self.turn.store(turn, SeqCst);

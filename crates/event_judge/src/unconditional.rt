@@ -17,7 +17,8 @@ use ival_core::Enclosure;
 use step_enclosures::StepEnclosures;
 
 impl<N: Naming> Memory<N> {
-    // The verdict without conditions by the signs at the ends of a node, by which the turns between them are known.
+    // Returns the verdict of a node without conditions by the signs at its ends, where these show the turns between
+    // them.
     fn unconditional_end_verdict(&self, node: ValidNode) -> Verdict
         requires named { node.search.now ≡ N.search }
         ensures { result ≡ end_verdict (criteria N.search) node.entry.node []
@@ -26,7 +27,8 @@ impl<N: Naming> Memory<N> {
         node.unconditional_verdict(self.first_sign(node), self.last_sign(node))
     }
 
-    // The verdict of a node into which no border falls, where the event has no conditions, by the enclosure of the function.
+    // Returns the verdict of a node into which no border falls, where the event has no conditions, by the enclosure
+    // of the function.
     fn unconditional_verdict(&self, node: ValidNode, over: &Enclosure) -> Verdict
         requires named { node.search.now ≡ N.search }
         requires uncrossed { crosses node.search.now node.node ≡ false }
@@ -46,8 +48,9 @@ impl<N: Naming> Memory<N> {
         }
     }
 
-    /// The verdict of a node into which no border falls, by what is made by steps of the states over all its times, and by the
-    /// enclosure of the function. Where the event has no conditions, signs at its ends that are remembered are not sought again.
+    /// Returns the verdict of a node into which no border falls, by the enclosures of its steps over all its times,
+    /// and by the enclosure of the function. Where the event has no conditions, signs at the node's ends that are
+    /// remembered are not sought again.
     pub(crate) fn verdict_over(
         &self,
         node: ValidNode,

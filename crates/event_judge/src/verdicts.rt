@@ -20,7 +20,8 @@ use ival_core::{Enclosure, Sign};
 use step_enclosures::{StepEnclosures, blank};
 
 impl<'s, 'e> ValidNode<'s, 'e> {
-    /// The border of the columns in use in the node, the nearest to its middle.
+    /// Returns the border of the columns in use in the node that is nearest to its middle, or none where there is
+    /// none.
     #[inline(always)]
     pub(crate) fn border(self) -> Option<i64>
         ensures { result ≡ border_in self.entry.search.now self.entry.node }
@@ -31,7 +32,7 @@ impl<'s, 'e> ValidNode<'s, 'e> {
             .border_near(columns, self.node.a, self.node.b)
     }
 
-    /// The number of its times.
+    /// Returns the width of the node, in units of time.
     #[inline(always)]
     pub(crate) fn width(self) -> u64
         ensures { result ≡ width self.entry.node }
@@ -39,7 +40,7 @@ impl<'s, 'e> ValidNode<'s, 'e> {
         (self.node.b - self.node.a).unsigned_abs()
     }
 
-    /// Wider than one unit of time.
+    /// Tells whether the node is wider than one unit of time.
     #[inline(always)]
     pub(crate) fn is_wide(self) -> bool
         ensures { result ≡ is_wide self.entry.node }
@@ -47,15 +48,15 @@ impl<'s, 'e> ValidNode<'s, 'e> {
         self.width() > 1
     }
 
-    /// Whether it may be cut, whatever its verdict: it is wider than one unit, and a border falls into it or it is less deep
-    /// than the search goes.
+    /// Tells whether the node may be cut, whatever its verdict. It must be wider than one unit, and a border falls
+    /// into it or it is less deep than the search goes.
     pub(crate) fn may_be_cut(self) -> bool
         ensures { result ≡ may_be_cut self.entry.search.now self.entry.node }
     {
         self.is_wide() && (self.border().is_some() || self.node.depth < self.search.depth())
     }
 
-    /// No wider than the width of the search.
+    /// Tells whether the node is no wider than the width of the search.
     #[inline(always)]
     pub(crate) fn is_narrow(self) -> bool
         ensures { result ≡ nat_le (width self.entry.node) self.entry.search.now.width }
@@ -63,7 +64,7 @@ impl<'s, 'e> ValidNode<'s, 'e> {
         self.width() <= self.search.width()
     }
 
-    // Wider than the width, and not as deep as the depth.
+    // Tells whether the node is wider than the width of the search, and not as deep as its depth.
     #[inline(always)]
     fn is_above_limits(self) -> bool
         ensures { result ≡ is_above_limits (criteria self.entry.search.now) self.entry.node }
@@ -71,7 +72,7 @@ impl<'s, 'e> ValidNode<'s, 'e> {
         !self.is_narrow() && self.node.depth < self.search.depth()
     }
 
-    /// The states at its first time, of which only the function is asked.
+    /// Returns the snapshot of the node's first time, of which only the function is asked.
     #[inline(always)]
     pub(crate) fn first(self) -> Snapshot<'s, 'e>
         ensures { result ≡ first_moment self.entry.search.now self.entry.node }
@@ -81,7 +82,7 @@ impl<'s, 'e> ValidNode<'s, 'e> {
         states.at(self.node.a, self.node.a, self.search.of_function())
     }
 
-    // The states at its last time.
+    // Returns the snapshot of the node's last time, of which the function and the conditions are asked.
     #[inline(always)]
     fn last(self) -> Snapshot<'s, 'e>
         ensures { result ≡ last_moment self.entry.search.now self.entry.node }
@@ -91,7 +92,7 @@ impl<'s, 'e> ValidNode<'s, 'e> {
         states.at(self.node.b, self.node.b, self.search.wanted())
     }
 
-    /// The states at its last time, of which only the function is asked.
+    /// Returns the snapshot of the node's last time, of which only the function is asked.
     #[inline(always)]
     pub(crate) fn last_of_function(self) -> Snapshot<'s, 'e>
         ensures { result ≡ last_moment self.entry.search.now self.entry.node }
@@ -101,7 +102,7 @@ impl<'s, 'e> ValidNode<'s, 'e> {
         states.at(time, time, self.search.of_function())
     }
 
-    /// The states over all its times, where no border falls into it.
+    /// Returns the snapshot of all times of the node, where no border falls into it.
     #[inline(always)]
     pub(crate) fn whole(self) -> Snapshot<'s, 'e>
         requires { crosses self.search.now self.node ≡ false }
@@ -112,7 +113,8 @@ impl<'s, 'e> ValidNode<'s, 'e> {
         states.at(self.node.a, self.node.b, self.search.wanted())
     }
 
-    /// What is made by the steps of its event of the states over some times: nothing yet. The slots may hold anything.
+    /// Returns the enclosures of the event's steps over the times of a snapshot, of which none is made. The slots
+    /// may hold anything.
     #[inline(always)]
     pub(crate) fn steps<'w, 'r>(
         self,
@@ -131,7 +133,7 @@ impl<'s, 'e> ValidNode<'s, 'e> {
         StepEnclosures::new(states, &listed.steps, slots)
     }
 
-    /// The enclosure of the function over some times, by steps.
+    /// Returns the enclosure of the function over some times, by steps.
     #[inline(always)]
     pub(crate) fn enclosure(self, listed: &ListedEvent, made: &mut StepEnclosures) -> Enclosure
         requires listed { AreStepsOf (sight_of self.search.now.view) self.search.now.event listed.now }
@@ -143,7 +145,7 @@ impl<'s, 'e> ValidNode<'s, 'e> {
         made.enclosure(listed.function)
     }
 
-    /// The sign of the function over some times.
+    /// Returns the sign of the function over the times of a snapshot.
     pub(crate) fn sign(self, states: &Snapshot) -> Sign
         requires { states.now.view ≡ self.search.now.view }
         ensures { result ≡ sign_at self.entry.search.now states.now }
@@ -157,7 +159,7 @@ impl<'s, 'e> ValidNode<'s, 'e> {
         }
     }
 
-    // The same by so many slots.
+    // Returns the sign of the function over the times of a snapshot, by `N` slots.
     #[inline(never)]
     fn sign_by<const N: usize>(self, states: &Snapshot, listed: &ListedEvent) -> Sign
         requires listed { AreStepsOf (sight_of self.search.now.view) self.search.now.event listed.now }
@@ -171,7 +173,7 @@ impl<'s, 'e> ValidNode<'s, 'e> {
         self.enclosure(listed, &mut made).range.sign()
     }
 
-    /// By an enclosure of the function it has no turn that is wanted.
+    /// Tells whether the function has no turn that is wanted, by an enclosure of it.
     #[inline(always)]
     pub(crate) fn is_turnless(self, over: &Enclosure) -> bool
         ensures { result ≡ is_turnless_by self.entry.search.now over.now }
@@ -179,7 +181,7 @@ impl<'s, 'e> ValidNode<'s, 'e> {
         is_turnless(self.search.event().dir(), over)
     }
 
-    // Some condition is false at each of some times.
+    // Tells whether some condition is false at each of some times.
     #[inline(always)]
     fn is_refuted(self, listed: &ListedEvent, made: &mut StepEnclosures) -> bool
         requires listed { AreStepsOf (sight_of self.search.now.view) self.search.now.event listed.now }
@@ -191,7 +193,7 @@ impl<'s, 'e> ValidNode<'s, 'e> {
         is_one_refuted(self.search.event().guards(), listed, made)
     }
 
-    // Each condition holds at each of some times.
+    // Tells whether each condition holds at each of some times.
     #[inline(always)]
     fn is_certified(self, listed: &ListedEvent, made: &mut StepEnclosures) -> bool
         requires listed { AreStepsOf (sight_of self.search.now.view) self.search.now.event listed.now }
@@ -203,7 +205,7 @@ impl<'s, 'e> ValidNode<'s, 'e> {
         are_certified(self.search.event().guards(), listed, made)
     }
 
-    /// The verdict where nothing decides.
+    /// Returns the verdict where nothing decides: `Split` above the limits of the search, and else `Undecided`.
     #[inline(always)]
     pub(crate) fn limit_verdict(self) -> Verdict
         ensures { result ≡ limit_verdict (criteria self.entry.search.now) self.entry.node }
@@ -215,8 +217,8 @@ impl<'s, 'e> ValidNode<'s, 'e> {
         }
     }
 
-    // The verdict by the signs at the ends, by which the turns between them are known, with the conditions over some
-    // times.
+    // Returns the verdict by the signs at the node's ends, where these show the turns between them, with the
+    // conditions over some times.
     #[inline(always)]
     fn end_verdict(
         self,
@@ -241,7 +243,7 @@ impl<'s, 'e> ValidNode<'s, 'e> {
         }
     }
 
-    /// The verdict of a node in a steady span, by signs at its ends that are both known.
+    /// Returns the verdict of a node in a steady span, by signs at its ends that are both known.
     pub(crate) fn steady_verdict(self, at_first: Sign, at_last: Sign) -> Verdict
         ensures { result ≡ steady_verdict (criteria self.entry.search.now) self.entry.node
             at_first at_last }
@@ -255,7 +257,8 @@ impl<'s, 'e> ValidNode<'s, 'e> {
         }
     }
 
-    /// The verdict without conditions by the signs at the ends, by which the turns between them are known.
+    /// Returns the verdict without conditions by the signs at the node's ends, where these show the turns between
+    /// them.
     pub(crate) fn unconditional_verdict(self, at_first: Sign, at_last: Sign) -> Verdict
         ensures { result ≡ end_verdict (criteria self.entry.search.now) self.entry.node []
             at_first at_last }
@@ -270,7 +273,7 @@ impl<'s, 'e> ValidNode<'s, 'e> {
         }
     }
 
-    // The verdict of a node that is one unit wide, by the states at its two times.
+    // Returns the verdict of a node that is one unit wide, by the snapshots of its two times.
     fn unit_verdict(self) -> Verdict
         ensures { let s = self.entry.search.now in
             let last = last_moment s self.entry.node in
@@ -286,7 +289,7 @@ impl<'s, 'e> ValidNode<'s, 'e> {
         }
     }
 
-    // The same by so many slots.
+    // Returns the verdict of a node that is one unit wide, by `N` slots.
     #[inline(never)]
     fn unit_verdict_by<const N: usize>(self, listed: &ListedEvent) -> Verdict
         requires listed { AreStepsOf (sight_of self.search.now.view) self.search.now.event listed.now }
@@ -308,8 +311,8 @@ impl<'s, 'e> ValidNode<'s, 'e> {
         }
     }
 
-    /// The verdict of a node into which no border falls, by what is made by steps of the states over all its times, and by the
-    /// enclosure of the function.
+    /// Returns the verdict of a node into which no border falls, by the enclosures of its steps over all its times,
+    /// and by the enclosure of the function.
     pub(crate) fn verdict_over(
         self,
         listed: &ListedEvent,
@@ -343,7 +346,7 @@ impl<'s, 'e> ValidNode<'s, 'e> {
         }
     }
 
-    // The verdict of a node into which no border falls.
+    // Returns the verdict of a node into which no border falls.
     fn open_verdict(self) -> Verdict
         requires { crosses self.search.now self.node ≡ false }
         ensures { result ≡ verdict_of self.entry.search.now self.entry.node }
@@ -357,7 +360,7 @@ impl<'s, 'e> ValidNode<'s, 'e> {
         }
     }
 
-    // The same by so many slots.
+    // Returns the verdict of a node into which no border falls, by `N` slots.
     #[inline(never)]
     fn open_verdict_by<const N: usize>(self, listed: &ListedEvent) -> Verdict
         requires listed { AreStepsOf (sight_of self.search.now.view) self.search.now.event listed.now }
@@ -373,7 +376,7 @@ impl<'s, 'e> ValidNode<'s, 'e> {
         self.verdict_over(listed, &mut whole, &over)
     }
 
-    /// The verdict of a node into which a border falls.
+    /// Returns the verdict of a node into which a border falls: `Split` where it is wider than one unit.
     pub(crate) fn border_verdict(self) -> Verdict
         requires { crosses self.search.now self.node ≡ true }
         ensures { result ≡ verdict_of self.entry.search.now self.entry.node }
@@ -386,7 +389,7 @@ impl<'s, 'e> ValidNode<'s, 'e> {
         }
     }
 
-    /// The verdict of the node.
+    /// Returns the verdict of the node.
     pub(crate) fn verdict(self) -> Verdict
         ensures { result ≡ verdict_of self.entry.search.now self.entry.node }
     {

@@ -1,8 +1,8 @@
-// The coordinates of which an event asks.
+// The coordinates that an event names.
 use event_expr::Leaves;
 use event_kinds::Event;
 
-/// The coordinates that the function of an event or one of its guards names. No answer rests on them.
+/// Returns the coordinates that the function of an event or one of its conditions names. No result depends on them.
 pub(crate) fn wanted_leaves(event: &Event) -> Leaves {
     let mut leaves = event.function().leaves();
     for guard in event.guards() {

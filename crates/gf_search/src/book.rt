@@ -15,7 +15,7 @@ use std::sync::Wait;
 use std::thread::Threads;
 use steal_pool::{PoolError, run};
 
-// The leaves of a book, in order of time.
+// Returns the leaves of a book, in order of time. The only error is `Memory`.
 fn leaves_of(alloc: Global, book: &Book) -> Result<Vec<Leaf>, Refusal>
     requires { CoverRoot book.now.root book.now.entries.items }
     ensures leaves { IfOk result (λ found. found.items ≡ ordered_leaves book.now.entries.items) }
@@ -25,8 +25,9 @@ fn leaves_of(alloc: Global, book: &Book) -> Result<Vec<Leaf>, Refusal>
     Ok(found)
 }
 
-/// The leaves of a root in order of time, which a crew enters, or `TooManyLeaves` where they are more than it may find. Its
-/// gate is passed before each judging.
+/// Returns the leaves of a judge's tree at a root, in order of time, which the workers of a crew find. The crew's
+/// gate is passed before each node is judged. Errors: `TooManyLeaves` where they are more than the crew may find,
+/// or `Memory`.
 pub(crate) fn leaves_by<R: Threads + Wait + Sync, J: Judge, G: Gate>(
     crew: &Crew<R, G>,
     judge: &J,

@@ -1,4 +1,5 @@
-// The leaves of a tree that is coarser than that of a search, and has none that stands for too many of it.
+// The leaves of a tree that is coarser than the tree of a search, where they stand for no more of its leaves than
+// may be found.
 ghost use Rattle.std.specs.Prelude.{◌≡◌, ◌≤◌, All, IfOk};
 ghost use Rattle.spec_trees.specs.Tree.{IsValid, leaf_count, leaves};
 ghost use Rattle.spec_searches.specs.Found.{rules};
@@ -16,9 +17,10 @@ use std::sync::Wait;
 use std::thread::Threads;
 use still_spans::StillList;
 
-/// The leaves of a coarser tree at a root, by a judge of its nodes, where the tree of the search has no more than the crew may
-/// find, as far as the weights of these tell, or a count of the heaviest by a judge of the search. Else an error: `Memory`, or
-/// another, which says nothing of the search.
+/// Returns the leaves of a coarser tree at a root, in order of time, by a judge of its nodes. It does so where the
+/// tree of the search has no more leaves than the crew may find, as far as weights and counts show. A judge of the
+/// search counts the leaves below the heaviest. Else it returns an error: `Memory`, or another, which says nothing
+/// of the search.
 pub(crate) fn coarse_leaves<R: Threads + Wait + Sync, C: Judge, J: Judge, G: Gate>(
     crew: &Crew<R, G>,
     coarse: &C,

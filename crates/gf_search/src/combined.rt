@@ -1,4 +1,4 @@
-// Two sets made of those about one reference or two.
+// The two sets of a relation, made from the sets about one reference or two.
 ghost use Rattle.std.specs.Prelude.{IfOk, unwrap_or};
 ghost use Rattle.spec_sets.specs.Signs.{both, either, opposite};
 ghost use Rattle.spec_outcomes.specs.Sets.{relation_sign};
@@ -10,7 +10,7 @@ use spec_outcomes::Span;
 use spec_requests::Relation;
 use std::alloc::{AllocError, Global};
 
-// The times that are in the first sets and not in the second.
+// Returns the times of a span that are in the first sets and not in the second. The only error is out of memory.
 fn inside(alloc: Global, first: &Pair, second: &Pair, span: Span) -> Result<Pair, AllocError>
     requires span { HasSets span }
     requires within { AreWithin span second.now.sure second.now.maybe }
@@ -21,7 +21,8 @@ fn inside(alloc: Global, first: &Pair, second: &Pair, span: Span) -> Result<Pair
     first.intersect(alloc, &below)
 }
 
-// The times that are not in the first sets, or in the second.
+// Returns the times of a span that are not in the first sets, or are in the second. The only error is out of
+// memory.
 fn outside(alloc: Global, first: &Pair, second: &Pair, span: Span) -> Result<Pair, AllocError>
     requires span { HasSets span }
     requires within { AreWithin span first.now.sure first.now.maybe }
@@ -32,7 +33,8 @@ fn outside(alloc: Global, first: &Pair, second: &Pair, span: Span) -> Result<Pai
     below.union(alloc, second)
 }
 
-/// The times of a span that have a relation to references, by those that are at least each of them.
+/// Returns the times of a span that have a relation to references, from the times that are at least each of them.
+/// The only error is out of memory.
 pub(crate) fn combined(
     alloc: Global,
     relation: Relation,

@@ -1,4 +1,5 @@
-// How many leaves of the tree of a search lie below leaves of a coarser tree, at most: as many as they weigh, or as are counted.
+// The most leaves of the tree of a search that lie below leaves of a coarser tree: what these weigh, or what is
+// counted.
 ghost use Rattle.std.specs.Prelude.{◌≡◌, ◌≤◌, All, IfSome, IsTrue};
 ghost use Rattle.spec_trees.specs.Tree.{leaf_count};
 ghost use Rattle.spec_searches.specs.Found.{rules};
@@ -10,8 +11,8 @@ use halving::count_one;
 use spec_trees::Leaf;
 use still_spans::StillList;
 
-// How many lie below one of them at most, where these are no more than a limit: as many as it weighs, or, where that is more
-// than so much, as are counted.
+// Returns a number that the leaves of the search's tree below one leaf do not pass. It is the leaf's weight, or a
+// judge's count where the weight is above `light`. None is returned where the number is above `limit`.
 fn below<J: Judge>(
     judge: &J,
     search: &EventSearch,
@@ -35,7 +36,8 @@ fn below<J: Judge>(
     }
 }
 
-// Whether those below all of them are no more than so many, where each that weighs more than so much is counted.
+// Tells whether no more than `most` leaves of the search's tree lie below some leaves, as far as is known. Below a
+// leaf that weighs more than `light` they are counted, and below any other its weight is taken.
 fn are_few_by<J: Judge>(
     judge: &J,
     search: &EventSearch,
@@ -58,9 +60,9 @@ fn are_few_by<J: Judge>(
     true
 }
 
-/// Whether no more leaves of the tree of a search lie below leaves of a coarser tree than so many, as far as their weights
-/// tell. Where these are too much, but no more than twice as much, a count tells of those that weigh more than a fair share of
-/// half of it.
+/// Tells whether no more than `most` leaves of the tree of a search lie below leaves of a coarser tree, as far as
+/// is known. Their weights are added first. Where the sum is above `most`, but at most twice that, leaves below the
+/// heavy ones are counted: below those that weigh more than a fair share of half of `most`.
 pub(crate) fn are_few<J: Judge>(
     judge: &J,
     search: &EventSearch,

@@ -7,15 +7,15 @@ use std::alloc::Global;
 /// From 1 to 64 workers that search at once, with what they work with and the most leaves that they may find.
 #[derive(Drop)]
 pub struct Crew<'c, R, G> {
-    /// What starts their threads.
+    /// The runtime that starts the workers' threads.
     pub runtime: &'c R,
-    /// What their memory comes from.
+    /// The allocator of the workers' memory.
     pub alloc: Global,
-    /// How many they are.
+    /// The number of workers.
     pub workers: u32,
-    /// The most leaves of a search.
+    /// The most leaves that a search may have.
     pub max_leaves: u32,
-    /// What each of them passes before it judges a node.
+    /// The gate that each worker passes before it judges a node.
     pub gate: &'c G,
     ghost some: { 1 ≤ workers },
     ghost few: { workers ≤ MAX_WORKERS },

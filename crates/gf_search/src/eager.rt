@@ -1,4 +1,4 @@
-// Leaves that have the windows of a search: those of its eager tree, settled, or those of its tree.
+// Leaves that have the windows of a search: the leaves of its eager tree, settled, or the leaves of its tree.
 ghost use Rattle.std.specs.Prelude.{◌≡◌, ◌≤◌, All, IfErr, IfOk, map};
 ghost use Rattle.spec_trees.specs.Tree.{HasTime, IsValid, leaf_count, leaves};
 ghost use Rattle.spec_searches.specs.Found.{rules};
@@ -21,7 +21,8 @@ use std::sync::Wait;
 use std::thread::Threads;
 use still_spans::{EagerJudge, StillList, still_spans_by};
 
-/// Still spans of a search over the times of a node, in order, which a crew looks for.
+/// Returns still spans of a search over the times of a node, in order of time, which the workers of a crew look
+/// for. The only error is `Memory`.
 pub(crate) fn stills_of<R: Threads + Sync, G>(
     crew: &Crew<R, G>,
     search: &EventSearch,
@@ -43,8 +44,9 @@ pub(crate) fn stills_of<R: Threads + Sync, G>(
     }
 }
 
-// The leaves of the eager tree of a search, by a judge of its nodes and by still spans, where the tree of the search has no more
-// than the crew may find, as far as is known; else an error.
+// Returns the leaves of the eager tree of a search at a root, by a judge of the search's nodes and by still spans.
+// It does so where the tree of the search has no more leaves than the crew may find, as far as is known. Else it
+// returns an error: `Memory`, or another, which says nothing of the search.
 fn eager_leaves<R: Threads + Wait + Sync, J: Judge, G: Gate>(
     crew: &Crew<R, G>,
     judge: &J,
@@ -69,7 +71,8 @@ fn eager_leaves<R: Threads + Wait + Sync, J: Judge, G: Gate>(
     coarse_leaves(crew, &eager, judge, search, stills, root)
 }
 
-// Leaves of the eager tree of a search at a root, settled by a judge of its nodes.
+// Returns leaves of the eager tree of a search at a root, settled by a judge of the search's nodes. An undecided
+// leaf becomes clear where it lies in a clear leaf of the search's tree.
 fn settled<J: Judge>(
     judge: &J,
     search: &EventSearch,
@@ -88,9 +91,10 @@ fn settled<J: Judge>(
     leaves
 }
 
-/// Leaves that have the windows of the tree of a search at a root, by a judge of its nodes and by still spans, in order of
-/// time: those of the eager tree, settled, where the tree has no more leaves than the crew may find, as far as is known; or those
-/// of the tree; or `TooManyLeaves` where these are more than that.
+/// Returns leaves that have the windows of the tree of a search at a root, in order of time, by a judge of its
+/// nodes and by still spans. They are the leaves of the eager tree, settled, where the tree has no more leaves than
+/// the crew may find, as far as is known. Else they are the leaves of the tree. Errors: `TooManyLeaves` where they
+/// are more than the crew may find, or `Memory`.
 pub(crate) fn windowed_leaves<R: Threads + Wait + Sync, J: Judge, G: Gate>(
     crew: &Crew<R, G>,
     judge: &J,

@@ -1,6 +1,6 @@
 //! What searches: a query, a span of an ephemeris and a crew of workers come in, and the leaves of the query's tree over the
 //! span go out in order of time, or why there are none. The workers walk the tree at once, each through a gate. Where only the
-//! windows of the leaves are wanted, or the signs that they tell, spans that are known to be still are found first, and nodes
+//! windows of the leaves are wanted, or the signs that they show, spans that are known to be still are found first, and nodes
 //! in them are not cut.
 //!
 //! - A polynomial that is asked for (`scalar_search`) is searched the same way, without a file.

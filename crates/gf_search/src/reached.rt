@@ -22,7 +22,8 @@ use std::alloc::{AllocError, Global};
 use std::sync::Wait;
 use std::thread::Threads;
 
-// Those of a span, by leaves that tell the signs of the search for the query's event.
+// Returns the times of a span at which the function of a query is at least 0, by leaves that show the signs of the
+// search for the query's event. The only error is out of memory.
 fn reached_by(
     alloc: Global,
     ephemeris: &Ephemeris,
@@ -48,7 +49,9 @@ fn reached_by(
     at_least(alloc, event.function(), &states, span.from, leaves)
 }
 
-/// Those of a span that are sure, and those that are possible, by a search for the query's event, which has no fault.
+/// Returns the times of a span at which the function of a query is at least 0: the sure times and the possible
+/// ones. A search for the query's event, which has no fault, finds them. Errors: `TooManyLeaves` where the search
+/// has more than may be found, or `Memory`.
 pub(crate) fn reached<R: Threads + Wait + Sync, G: Gate>(
     rt: &R,
     alloc: Global,

@@ -1,4 +1,4 @@
-// The times that are at least each reference.
+// The times at which a function is at least each of its references.
 ghost use Rattle.std.specs.Prelude.{◌≡◌, ◌<◌, ◌≤◌, IfErr, IfOk, None, OnOk, true, unwrap_or};
 ghost use Rattle.spec_kinds.specs.Faults.{fault_of};
 ghost use Rattle.spec_kinds.specs.Kinds.{event_of};
@@ -21,7 +21,8 @@ use std::alloc::Global;
 use std::sync::Wait;
 use std::thread::Threads;
 
-/// The times that are at least the first reference, and those that are at least the second, where there is one.
+/// The times at which a function is at least its first reference, and the times at which it is at least its second
+/// one, where there is one.
 #[derive(Drop)]
 pub(crate) struct Both {
     pub(crate) first: Pair,
@@ -29,7 +30,8 @@ pub(crate) struct Both {
 }
 
 impl Both {
-    /// The times that are at least the second reference; where there is none, those that are at least the first.
+    /// Returns the times at which the function is at least the second reference; where there is none, the first
+    /// reference stands for it.
     pub(crate) fn second(&self) -> &Pair
         ensures { result.now ≡ unwrap_or self.now.second self.now.first }
     {
@@ -40,7 +42,7 @@ impl Both {
     }
 }
 
-// The query about another reference.
+// Returns the query with another reference.
 fn with_reference(query: &Query, ref2: Decimal) -> Query
     ensures { result ≡ with_reference query.now ref2 }
 {
@@ -53,7 +55,8 @@ fn with_reference(query: &Query, ref2: Decimal) -> Query
     }
 }
 
-// The times of a span that are at least the one reference of a query, or why there are none.
+// Returns the times of a span at which a query's function is at least its one reference. Errors: the fault of the
+// event, `TooManyLeaves`, or `Memory`.
 fn about_one<R: Threads + Wait + Sync, G: Gate>(
     rt: &R,
     alloc: Global,
@@ -83,8 +86,8 @@ fn about_one<R: Threads + Wait + Sync, G: Gate>(
     })
 }
 
-// The times of a span that are at least the reference of each of two queries, by searches for their events, which have no
-// fault, or why there are none.
+// Returns the times of a span at which the function of each of two queries is at least its reference. It searches
+// for the events of the queries, which have no fault. Errors: `TooManyLeaves` or `Memory`.
 fn both_reached<R: Threads + Wait + Sync, G: Gate>(
     rt: &R,
     alloc: Global,
@@ -122,8 +125,9 @@ fn both_reached<R: Threads + Wait + Sync, G: Gate>(
     })
 }
 
-// The times of a span that are at least the reference of each of two queries, or why there are none. A fault of either is
-// looked for before any search, that of the first before that of the second.
+// Returns the times of a span at which the function of each of two queries is at least its reference. A fault of
+// either event is looked for before any search, in the first query before the second. Errors: the fault of an
+// event, `TooManyLeaves`, or `Memory`.
 fn about_two<R: Threads + Wait + Sync, G: Gate>(
     rt: &R,
     alloc: Global,
@@ -156,8 +160,9 @@ fn about_two<R: Threads + Wait + Sync, G: Gate>(
     )
 }
 
-/// The times of a span that are at least the reference of a query, and those that are at least the second one, or why
-/// there are none.
+/// Returns the times of a span at which a query's function is at least its reference. Where there is a second
+/// reference, the times at which the function is at least that are returned too. Errors: the fault of the event
+/// about one of them, `TooManyLeaves`, or `Memory`.
 pub(crate) fn about<R: Threads + Wait + Sync, G: Gate>(
     rt: &R,
     alloc: Global,

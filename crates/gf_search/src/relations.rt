@@ -16,11 +16,12 @@ use std::alloc::Global;
 use std::sync::Wait;
 use std::thread::Threads;
 
-/// The times of a span at which the function of a query has a relation to its references: those that are sure to have it,
-/// and those that may, which 1 to 64 workers search for. The query wants all turns, of a kind that has sets, and its
-/// number is the first reference; where there is no second one, the first stands for it. The fault of the event, about the
-/// first reference and then about the second, `TooManyLeaves` where the search about one of them has more than may be, or
-/// `Memory`. Times are in the ticks of the ephemeris since J2000 in TDB.
+/// Returns the times of a span at which the function of a query has a relation to its references: those that are
+/// sure to have it, and those that may. From 1 to 64 workers search for them. The query wants all turns, of a kind
+/// that has sets, and its number is the first reference. Where there is no second reference, the first stands for
+/// it. Times are in the ticks of the ephemeris since J2000 in TDB. Errors: the fault of the event, about the first
+/// reference and then about the second; `TooManyLeaves` where the search about one of them has more than may be;
+/// `Memory`.
 pub fn related<R: Threads + Wait + Sync, G: Gate>(
     rt: &R,
     alloc: Global,

@@ -1,4 +1,4 @@
-// What is wanted of a tree, by a judge that remembers.
+// The leaves that are wanted of a tree, found by a judge that remembers.
 ghost use Rattle.std.specs.Prelude.{◌≡◌, All, IfErr, IfOk};
 ghost use Rattle.spec_trees.specs.Tree.{IsValid, leaf_count};
 ghost use Rattle.spec_searches.specs.Found.{rules};
@@ -19,7 +19,8 @@ use std::sync::Wait;
 use std::thread::Threads;
 use still_spans::StillList;
 
-// Still spans of a search over the times of a node, in order, which a crew looks for; none where leaves are wanted.
+// Returns still spans of a search over the times of a node, in order of time, which the workers of a crew look for.
+// It returns none where leaves are wanted. The only error is `Memory`.
 fn stills_for<R: Threads + Sync, G>(
     crew: &Crew<R, G>,
     wanted: Wanted,
@@ -36,7 +37,8 @@ fn stills_for<R: Threads + Sync, G>(
     }
 }
 
-// What is wanted of the tree of a search at a root, by a judge of its nodes and by still spans.
+// Returns the leaves that are wanted of the tree of a search at a root, by a judge of its nodes and by still spans.
+// Errors: `TooManyLeaves` where the tree has more leaves than the crew may find, or `Memory`.
 fn leaves_among<R: Threads + Wait + Sync, J: Judge, G: Gate>(
     crew: &Crew<R, G>,
     wanted: Wanted,
@@ -60,7 +62,9 @@ fn leaves_among<R: Threads + Wait + Sync, J: Judge, G: Gate>(
     }
 }
 
-// What is wanted of the tree of a search at a root, by a judge of its nodes.
+// Returns the leaves that are wanted of the tree of a search at a root, by a judge of its nodes. Still spans are
+// looked for first, where they can serve. Errors: `TooManyLeaves` where the tree has more leaves than the crew may
+// find, or `Memory`.
 fn wanted_leaves<R: Threads + Wait + Sync, J: Judge, G: Gate>(
     crew: &Crew<R, G>,
     wanted: Wanted,
@@ -87,7 +91,9 @@ fn wanted_leaves<R: Threads + Wait + Sync, J: Judge, G: Gate>(
     }
 }
 
-// What is wanted of the tree at a root of the search that a call has named, by a judge that remembers.
+// Returns the leaves that are wanted of the tree at a root of the search that a call has named. A judge of its
+// nodes is asked by one that remembers. Errors: `TooManyLeaves` where the tree has more leaves than the crew may
+// find, or `Memory`.
 fn named_leaves<R: Threads + Wait + Sync, N: Naming + Send + Sync, J: Judge, G: Gate>(
     crew: &Crew<R, G>,
     wanted: Wanted,
@@ -109,8 +115,9 @@ fn named_leaves<R: Threads + Wait + Sync, N: Naming + Send + Sync, J: Judge, G: 
     wanted_leaves(crew, wanted, &remembering, search, root)
 }
 
-/// What is wanted of the tree of a search at a root, by a judge of its nodes. What a crew finds out of the search is
-/// remembered, and each worker is told what the others found.
+/// Returns the leaves that are wanted of the tree of a search at a root, by a judge of its nodes. What one worker
+/// of a crew finds out of the search is remembered for all of them. Errors: `TooManyLeaves` where the tree has more
+/// leaves than the crew may find, or `Memory`.
 pub(crate) fn remembered_leaves<R: Threads + Wait + Sync, J: Judge, G: Gate>(
     crew: &Crew<R, G>,
     wanted: Wanted,

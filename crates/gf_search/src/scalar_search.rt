@@ -15,10 +15,10 @@ use std::sync::Wait;
 use std::thread::Threads;
 use steal_pool::PoolError;
 
-// The latest time of a scalar; the first is as early.
+// The latest time of a scalar. The earliest is as far before 0.
 const LATEST: i64 = MAX_SCALAR_TIME as i64;
 
-// The judge of the search of the polynomial.
+// Returns the judge of the search of the polynomial that is asked for.
 fn judge_of(ask: &ScalarAsk) -> ScalarJudge<Quad>
     requires { IsScalarWithinLimits ask.now }
     ensures law { result.scalar.law ≡ quadratic_of ask.now }
@@ -35,7 +35,7 @@ fn judge_of(ask: &ScalarAsk) -> ScalarJudge<Quad>
     }
 }
 
-// The root of its tree.
+// Returns the root of the search's tree: all times of the span, at the depth 0.
 fn root_of(ask: &ScalarAsk) -> Node
     ensures { result ≡ scalar_root ask.now }
 {
@@ -46,7 +46,7 @@ fn root_of(ask: &ScalarAsk) -> Node
     }
 }
 
-// The refusal of a span that holds no time.
+// Returns the refusal of a span that holds no time.
 fn outside(ask: &ScalarAsk) -> Refusal
     ensures { result ≡ Refusal.Outside (scalar_span ask.now) whole_scalar_span }
 {
@@ -62,7 +62,8 @@ fn outside(ask: &ScalarAsk) -> Refusal
     }
 }
 
-// The leaves of a search over a span that holds a time.
+// Returns the leaves of a search over a span that holds a time, in order of time. Errors: `TooManyLeaves` or
+// `Memory`.
 fn search_span<R: Threads + Wait + Sync, G: Gate>(
     rt: &R,
     alloc: Global,
@@ -84,10 +85,10 @@ fn search_span<R: Threads + Wait + Sync, G: Gate>(
     }
 }
 
-/// The leaves of the search of a polynomial that is asked for, in order of time, which its workers look for at once: they
-/// follow one another over the span, and their windows are those of the times at which the polynomial passes 0 in a wanted
-/// direction. Times are whole numbers. `Outside` where the span holds no time, `TooManyLeaves` where there are more than a
-/// report may have, or `Memory`.
+/// Returns the leaves of the search of a polynomial that is asked for, in order of time. Its workers look for them
+/// at once. The leaves follow one another over the span. Their windows are those of the times at which the
+/// polynomial passes 0 in a wanted direction. Times are whole numbers. Errors: `Outside` where the span holds no
+/// time; `TooManyLeaves` where there are more than a report may have; `Memory`.
 pub fn search_scalar<R: Threads + Wait + Sync, G: Gate>(
     rt: &R,
     alloc: Global,

@@ -20,7 +20,8 @@ use spec_trees::Leaf;
 use std::sync::Wait;
 use std::thread::Threads;
 
-// What is wanted of the search of a query over a span, for its event, which has no fault.
+// Returns the leaves that are wanted of the search of a query over a span, for the query's event, which has no
+// fault. Errors: `TooManyLeaves` where the search has more leaves than the crew may find, or `Memory`.
 fn wanted_of<R: Threads + Wait + Sync, G: Gate>(
     crew: &Crew<R, G>,
     wanted: Wanted,

@@ -1,4 +1,4 @@
-// Leaves that tell the signs that those of a search tell: those of its served tree, or those of its tree.
+// Leaves that show the signs of a search: the leaves of its served tree, or the leaves of its tree.
 ghost use Rattle.std.specs.Prelude.{◌≡◌, ◌≤◌, All, IfErr, IfOk};
 ghost use Rattle.spec_trees.specs.Tree.{IsValid, leaf_count, leaves};
 ghost use Rattle.spec_searches.specs.Found.{rules};
@@ -19,8 +19,9 @@ use std::sync::Wait;
 use std::thread::Threads;
 use still_spans::{ServedJudge, StillList};
 
-// The leaves of the served tree of a search, by a judge of its nodes and by still spans, where the tree of the search has no
-// more than the crew may find, as far as is known; else an error.
+// Returns the leaves of the served tree of a search at a root, by a judge of the search's nodes and by still spans.
+// It does so where the tree of the search has no more leaves than the crew may find, as far as is known. Else it
+// returns an error: `Memory`, or another, which says nothing of the search.
 fn served_leaves<R: Threads + Wait + Sync, J: Judge, G: Gate>(
     crew: &Crew<R, G>,
     judge: &J,
@@ -45,9 +46,10 @@ fn served_leaves<R: Threads + Wait + Sync, J: Judge, G: Gate>(
     coarse_leaves(crew, &served, judge, search, stills, root)
 }
 
-/// Leaves that tell the signs of the tree of a search at a root, by a judge of its nodes and by still spans, in order of time:
-/// those of the served tree, where the tree has no more leaves than the crew may find, as far as is known; or those of the tree;
-/// or `TooManyLeaves` where these are more than that.
+/// Returns leaves that show the signs of the tree of a search at a root, in order of time, by a judge of its nodes
+/// and by still spans. They are the leaves of the served tree, where the tree has no more leaves than the crew may
+/// find, as far as is known. Else they are the leaves of the tree. Errors: `TooManyLeaves` where they are more than
+/// the crew may find, or `Memory`.
 pub(crate) fn signed_leaves<R: Threads + Wait + Sync, J: Judge, G: Gate>(
     crew: &Crew<R, G>,
     judge: &J,

@@ -15,8 +15,8 @@ use spec_trees::{Leaf, Node, leaves_cover_the_node};
 use std::sync::Wait;
 use std::thread::Threads;
 
-/// The leaves of the tree of a search at a root, by a judge of its nodes, in order of time, which serve whatever is wanted; or
-/// `TooManyLeaves` where they are more than the crew may find.
+/// Returns the leaves of the tree of a search at a root, by a judge of its nodes, in order of time. They serve
+/// whatever is wanted. Errors: `TooManyLeaves` where they are more than the crew may find, or `Memory`.
 pub(crate) fn tree_leaves<R: Threads + Wait + Sync, J: Judge, G: Gate>(
     crew: &Crew<R, G>,
     judge: &J,

@@ -56,9 +56,10 @@ fn wanted_of<R: Threads + Wait + Sync, G: Gate>(
     remembered_leaves(crew, wanted, &judge, &judge.search, root)
 }
 
-/// Searches a span of an ephemeris for the events of a query by the workers of a crew, and returns the leaves that are wanted
-/// (`Wanted`), which follow one another over the span in order of time. Times are in the ticks of the ephemeris since J2000 in
-/// TDB. Errors: the fault of the event; `TooManyLeaves` where the search has more leaves than the crew may find; `Memory`.
+/// Searches a span of an ephemeris for the events of a query by the workers of a crew, and returns the leaves that
+/// are wanted (`Wanted`). They follow one another over the span in order of time. Times are in the ticks of the
+/// ephemeris since J2000 in TDB. Errors: the fault of the event; `TooManyLeaves` where the search has more leaves
+/// than the crew may find; `Memory`.
 pub fn leaves<R: Threads + Wait + Sync, G: Gate>(
     crew: &Crew<R, G>,
     wanted: Wanted,

@@ -3,9 +3,9 @@
     growth.py FINDER SOURCE TEXT CATALOGUE TURNS MOST
 
 FINDER is the program, SOURCE a text of DE405, and CATALOGUE has the options of each search. TEXT is written with 128
-blocks of SOURCE, repeated with running dates, and with twice as many again and again, up to MOST. Times are those of
-the processor with one worker, user and system together, the least of so many turns, less that of a reading by
-`finder check`. It prints a table in Markdown.
+blocks of SOURCE, repeated with running dates, and with twice as many again and again, up to MOST; what is more than a
+file may hold goes to TEXT-2 and so on. Times are those of the processor with one worker, user and system together, the
+least of so many turns, less that of a reading by `finder check`. It prints a table in Markdown.
 """
 
 import itertools
@@ -15,6 +15,7 @@ import texts
 from century import Command
 
 FIRST_BLOCKS = 128
+MAX_BLOCKS = 8_192  # of one file: twice as many blocks of DE405 are more bytes than a file may have
 SEARCHES = [
     "apsides of the Moon",
     "nodes of the Moon",
@@ -47,14 +48,24 @@ def counts(most):
     return list(itertools.takewhile(lambda count: count <= most, (FIRST_BLOCKS << k for k in itertools.count())))
 
 
+def written(text, source, count):
+    """Writes the header and so many blocks, and returns the names of the files."""
+    parts = itertools.islice(texts.repeated(source), count + 1)
+    names = []
+    for first in range(0, count, MAX_BLOCKS):
+        names.append(text if first == 0 else f"{text}-{first // MAX_BLOCKS + 1}")
+        texts.write(names[-1], itertools.islice(parts, MAX_BLOCKS + (first == 0)))
+    return names
+
+
 def measured(finder, source, text, options, turns, most):
     """The microseconds a block of each search, at each number of blocks."""
     found = {name: [] for name in SEARCHES}
     for count in counts(most):
-        texts.write(text, itertools.islice(texts.repeated(source), count + 1))
-        reading = seconds(turns, finder, "check", text)
+        files = written(text, source, count)
+        reading = seconds(turns, finder, "check", *files)
         for name in SEARCHES:
-            time = seconds(turns, finder, "find", *options[name], text) - reading
+            time = seconds(turns, finder, "find", *options[name], *files) - reading
             found[name].append(1_000_000 * time / count)
     return found
 

@@ -140,7 +140,8 @@ class Checks:
         """What is not published, and why."""
         begun = self.folder / "begun"
         killed(self.words[0], begun, YEAR)
-        certificate = sorted(begun.glob("*.cert"))[0]
+        # A search that was under way when the run was killed has a certificate without a report.
+        certificate = next(it for it in sorted(begun.glob("*.cert")) if it.with_suffix(".report").exists())
         text = certificate.read_text()
         certificate.write_text(text.replace(" N\n", " R\n", 1))
         done = published(self.words[0], begun, YEAR)

@@ -26,19 +26,23 @@ AreWithin = (v : View) (t : ColumnTerm) (a b : ℤ) → IsPart (sight_of v) t �
 abbrev pub AreEnclosing : Type 0
 AreEnclosing = (v : View) (t : ColumnTerm) (a b : ℤ) → IsPart (sight_of v) t → Fits v a b → Encloses a b (enclosure_meant v a b t)
 
-module _ (within : AreWithin) (encloses : AreEnclosing) (m : Moment) (fits : Fits m.view m.first m.last) where
+module _ (laws : record { within : AreWithin; encloses : AreEnclosing }) (inside m : Moment) (same : inside ≡ m) (fits : Fits inside.view inside.first inside.last) where
   abbrev IsOf : ColumnTerm → Enclosure → Type 0
   IsOf t made = made ≡ meant_in m t
 
-  part_within : (t : ColumnTerm) → IsPart (sight_of m.view) t → (x : Enclosure) → IsOf t x → AllWithin part_exponent x
-  part_within t part x is = subst (AllWithin part_exponent) (sym is) (within m.view t m.first m.last part fits)
+  fits_as : Fits m.view m.first m.last
+  fits_as = subst (λ (n : Moment). Fits n.view n.first n.last) same fits
 
-  part_encloses : (t : ColumnTerm) → IsPart (sight_of m.view) t → (x : Enclosure) → IsOf t x → Encloses m.first m.last x
-  part_encloses t part x is = subst (Encloses m.first m.last) (sym is) (encloses m.view t m.first m.last part fits)
+  part_within : (t : ColumnTerm) → IsPart (sight_of m.view) t → (x : Enclosure) → IsOf t x → AllWithin part_exponent x
+  part_within t part x is = subst (AllWithin part_exponent) (sym is) (laws.within m.view t m.first m.last part fits_as)
+
+  part_encloses : (t : ColumnTerm) → IsPart (sight_of m.view) t → (x : Enclosure) → IsOf t x → Encloses inside.first inside.last x
+  part_encloses t part x is =
+      subst (λ (n : Moment). Encloses n.first n.last x) (sym same) (subst (Encloses m.first m.last) (sym is) (laws.encloses m.view t m.first m.last part fits_as))
 
   -- one part
   pub one : (whole : ColumnTerm → ColumnTerm) → ((p : ColumnTerm) → IsPart (sight_of m.view) (whole p) → IsPart (sight_of m.view) p) → (x : Enclosure) → IsOperand (sight_of m.view) IsOf whole x
-      → record { within : AllWithin part_exponent x; encloses : Encloses m.first m.last x }
+      → record { within : AllWithin part_exponent x; encloses : Encloses inside.first inside.last x }
   one whole part x is =
       let own = part is.operand is.part in
       record { within = part_within is.operand own x is.of_operand; encloses = part_encloses is.operand own x is.of_operand }
@@ -46,7 +50,7 @@ module _ (within : AreWithin) (encloses : AreEnclosing) (m : Moment) (fits : Fit
   -- two parts
   pub two : (whole : ColumnTerm → ColumnTerm → ColumnTerm) → ((p q : ColumnTerm) → IsPart (sight_of m.view) (whole p q) → IsPart (sight_of m.view) p × IsPart (sight_of m.view) q)
       → (x y : Enclosure) → AreOperands (sight_of m.view) IsOf whole x y
-      → record { x_within : AllWithin part_exponent x; y_within : AllWithin part_exponent y; x_encloses : Encloses m.first m.last x; y_encloses : Encloses m.first m.last y }
+      → record { x_within : AllWithin part_exponent x; y_within : AllWithin part_exponent y; x_encloses : Encloses inside.first inside.last x; y_encloses : Encloses inside.first inside.last y }
   two whole parts x y are =
       let both = parts are.first are.second are.part in
       record {

@@ -1,9 +1,12 @@
 -- Sums over bases that are made once are the intervals of the series.
-use Rattle.std.proofs.Common.{◌≡◌, ◌∙◌, ℕ, ◌<◌, true, refl, List, ℤ}
+use Rattle.std.proofs.Common.{◌≡◌, ◌∙◌, ℕ, ◌<◌, Bool, true, false, arith, refl, sym, List, ℤ, ◌≤ℤ◌}
+use Rattle.std.proofs.lemmas.Int.{ints}
 use lib.Signed.{lt_z}
 use Rattle.spec_chebyshev.specs.declared.ends.Ival62.{Ival62}
-use Rattle.spec_intervals.specs.Interval.{Interval}
-use Rattle.spec_intervals.specs.Enclosure.{middle}
+use Rattle.spec_numbers.proofs.Order.{lin}
+use Rattle.spec_intervals.specs.Interval.{Interval, zero_interval}
+use Rattle.spec_intervals.specs.Enclosure.{Enclosure, enclosure, middle}
+use Rattle.spec_intervals.proofs.Centred.{middle_between}
 use Rattle.spec_ephemeris.specs.Granules.{series_of}
 use Rattle.spec_ephemeris.specs.Series.{Series}
 use Rattle.spec_motions.specs.Enclosures.{arguments, coefficients_of}
@@ -11,10 +14,12 @@ use Rattle.spec_motions.proofs.GranuleSeries.{IsSeries-of, IsSpan-of}
 use Rattle.spec_bodies.specs.declared.quantity.Quantity.{Quantity}
 use Rattle.spec_bodies.specs.declared.quantity.Quantity.TheVariants.{Position, Velocity}
 use Rattle.spec_bodies.specs.Views.{value_interval, step_interval}
+use Rattle.event_expr.proofs.Steps.{enclosure-single}
 use Rattle.body_states.specs.declared.granule_span.GranuleSpan.{GranuleSpan}
 use Rattle.body_states.specs.declared.bases.PlainRow.{PlainRow}
 use Rattle.body_states.specs.declared.bases.Rows.{Rows}
-use Rattle.body_states.specs.Bases.{IsCentre, IsWhole, AreSeveral, value_over, step_over}
+use Rattle.body_states.specs.Bases.{IsCentre, IsWhole, IsSingle, AreSeveral, value_over, step_over}
+use Rattle.body_states.specs.Ranges.{granule_parts}
 use Rattle.body_states.proofs.SeriesParts.{AreParts, series_parts}
 
 pub value_over-arguments : (quantity : Quantity) (s : Series) (a b : ℤ) → value_over quantity (coefficients_of s) (arguments s a b) s.duration ≡ value_interval quantity s a b
@@ -32,7 +37,29 @@ span_parts s quantity axis three =
     series_parts (series_of s.granule axis) quantity s.times.now.first s.times.now.last (IsSeries-of s.granule s.evaluable axis within)
     (IsSpan-of s.granule s.evaluable axis within s.times.now.first s.times.now.last s.from s.order s.upto)
 
--- ---- the times and their middle are within the granule, and near
+-- ---- at a single time that is the middle, and nothing changes
+pub middle_alone : (a b : ℤ) → a ≤ℤ b → lt_z a b ≡ false → (middle a b ≡ a) × (b ≡ a)
+middle_alone a b ordered single =
+    let between = middle_between a b ordered in
+    let from = between.0 in
+    let upto = between.1 in
+    (omega (arith, ints, lin, ordered, single, from, upto), omega (arith, ints, lin, ordered, single))
+
+no_step : (quantity : Quantity) (s : Series) (a b : ℤ) → lt_z a b ≡ false → zero_interval ≡ step_interval quantity s a b
+no_step Position s a b single = rw single refl
+no_step Velocity s a b single = rw single refl
+
+pub single_parts : (s : GranuleSpan) (quantity : Quantity) (axis : ℕ) → IsSingle s → (t : Interval) (made : Enclosure)
+    → t ≡ value_interval quantity (series_of s.granule axis) (middle s.times.now.first s.times.now.last) (middle s.times.now.first s.times.now.last)
+    → ((plain step : Interval) → made ≡ enclosure s.times.now.first s.times.now.last t plain step) → (centred : Bool) → made ≡ granule_parts s centred quantity axis
+single_parts s quantity axis single t made mid is true =
+    is _ _ ∙ λ i. enclosure s.times.now.first s.times.now.last (mid i) (value_interval quantity (series_of s.granule axis) s.times.now.first s.times.now.last) (step_interval quantity (series_of s.granule axis) s.times.now.first s.times.now.last)
+single_parts s quantity axis single t made mid is false =
+    let series = series_of s.granule axis in
+    let alone = middle_alone s.times.now.first s.times.now.last s.order single in
+    let own = mid ∙ λ i. value_interval quantity series (alone.0 i) ((alone.0 ∙ sym alone.1) i) in
+    is t t ∙ sym (enclosure-single s.times.now.first s.times.now.last single t t t zero_interval refl)
+    ∙ λ i. record { mid = own i; range = own i; step = no_step quantity series s.times.now.first s.times.now.last single i }
 
 -- ---- sums by the coefficients of an axis are the intervals of its series
 module _ (s : GranuleSpan) (quantity : Quantity) (axis : ℕ) (terms : List Ival62) (are : terms ≡ coefficients_of (series_of s.granule axis)) (t : Interval) where

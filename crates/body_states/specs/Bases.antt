@@ -1,5 +1,5 @@
 -- Rows of the bases, and sums over them.
-use Rattle.std.specs.Prelude.{◌≡◌, ◌≤◌, true, false, ℕ, List, ℤ}
+use Rattle.std.specs.Prelude.{◌≡◌, ◌≤◌, Bool, true, false, ℕ, List, ℤ}
 use lib.Signed.{lt_z}
 use Rattle.spec_intervals.specs.Interval.{Interval}
 use Rattle.spec_intervals.specs.Enclosure.{middle}
@@ -15,10 +15,10 @@ use Rattle.cheby_difference.specs.Slopes.{AreSlopes}
 use Rattle.body_states.specs.declared.bases.PlainRow.{PlainRow}
 use Rattle.body_states.specs.declared.bases.Rows.{Rows}
 use Rattle.body_states.specs.declared.bases.RowRoom.{RowRoom}
+use Rattle.body_states.specs.declared.column_entries.ColumnQuestion.{ColumnQuestion}
 use Rattle.body_states.specs.declared.granule_span.GranuleSpan.{GranuleSpan}
 
--- the first entries of the row of a quantity's values, as many as sums over n terms take: T for positions, slopes by U
--- for velocities
+-- the row of a quantity's values, as far as sums over n terms take it: T for positions, slopes by U for velocities
 abbrev pub AreValues : Quantity → ℕ → PlainRow → Type 0
 AreValues Position n row = IsRow n row.values (t_row row.arguments)
 AreValues Velocity n row = AreSlopes n row.values (u_row row.arguments)
@@ -57,17 +57,22 @@ IsSingle s = lt_z s.times.now.first s.times.now.last ≡ false
 abbrev pub AreSeveral : GranuleSpan → Type 0
 AreSeveral s = lt_z s.times.now.first s.times.now.last ≡ true
 
--- rows that are kept are those of a granule which begins with theirs, takes as long and has no more coefficients than they
--- have entries
+-- rows serve a granule that begins with theirs, takes as long, and has no more coefficients than they have entries
 pub record IsServed (g : Granule) (room : RowRoom) : Type 0 where
   pub start : g.start ≡ room.start
   pub seconds : g.seconds ≡ room.seconds
   pub few : g.n ≤ room.entries
 
--- what is kept over the times from a to b is right for each granule that it serves
-pub record AreKept (a b : ℤ) (quantity : Quantity) (room : RowRoom) : Type 0 where
-  pub centre : (s : GranuleSpan) → s.times.now.first ≡ a → s.times.now.last ≡ b → IsServed s.granule room → IsCentre s quantity room.centre
-  pub whole : (s : GranuleSpan) → s.times.now.first ≡ a → s.times.now.last ≡ b → AreSeveral s → IsServed s.granule room → IsWhole s quantity room.whole
+-- the rows wanted of a span: both over several times, and the one in the middle if it is looked at or there is one time
+pub record AreRows (s : GranuleSpan) (centred : Bool) (quantity : Quantity) (room : RowRoom) : Type 0 where
+  pub centre : centred ≡ true → IsCentre s quantity room.centre
+  pub single : IsSingle s → IsCentre s quantity room.centre
+  pub whole : AreSeveral s → IsWhole s quantity room.whole
+
+-- what is kept for a question is right for each granule that it serves
+abbrev pub AreKept : ColumnQuestion → RowRoom → Type 0
+AreKept q room = (s : GranuleSpan) → s.times.now.first ≡ q.times.now.first → s.times.now.last ≡ q.times.now.last → IsServed s.granule room
+    → AreRows s q.is_centred q.quantity room
 
 -- ---- sums over the rows, by terms, arguments and a length in seconds
 abbrev pub value_over : Quantity → List Ival62 → Ival62 → ℕ → Interval

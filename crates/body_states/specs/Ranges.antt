@@ -1,20 +1,19 @@
--- What the columns in use are over some times, as it is calculated without a look at the middle.
-use Rattle.std.specs.Prelude.{◌≡◌, ◌<◌, ℕ, zero, suc, ℤ, Bool, true, false, Option, None, Some, List, length, take, slice_index_or, ◌||◌}
+-- What the columns in use are over some times: enclosures, or, if the middle is not looked at, ranges.
+use Rattle.std.specs.Prelude.{◌≡◌, ◌<◌, ◌+◌, ◌||◌, ℕ, zero, suc, ℤ, Bool, true, false, Option, None, Some, List, length, take, slice_index_or}
+use Rattle.spec_intervals.specs.Enclosure.{Enclosure}
 use Rattle.spec_ephemeris.specs.Granules.{series_at, series_of}
 use Rattle.spec_ephemeris.specs.Series.{Series}
 use Rattle.spec_bodies.specs.declared.frame.Frame.{Frame}
 use Rattle.spec_bodies.specs.declared.frame.Frame.TheVariants.{Eq, Ecl}
 use Rattle.spec_bodies.specs.declared.quantity.Quantity.{Quantity}
-use Rattle.spec_bodies.specs.Views.{View, columns_of, step_interval, value_interval}
+use Rattle.spec_bodies.specs.Views.{View, columns_of, series_enclosure, step_interval, value_interval}
 use Rattle.event_expr.specs.declared.axes.Axes.{Axes}
-use Rattle.body_states.specs.declared.bases.RowRoom.{RowRoom}
-use Rattle.body_states.specs.declared.column_entries.AxisRanges.{AxisRanges}
+use Rattle.body_states.specs.declared.column_entries.AxisEntries.{AxisEntries}
 use Rattle.body_states.specs.declared.column_entries.ColumnEntry.{ColumnEntry}
-use Rattle.body_states.specs.declared.column_entries.RangeQuestion.{RangeQuestion}
+use Rattle.body_states.specs.declared.column_entries.ColumnQuestion.{ColumnQuestion}
+use Rattle.body_states.specs.declared.column_ranges.ColumnRange.{ColumnRange}
 use Rattle.body_states.specs.declared.granule_span.GranuleSpan.{GranuleSpan}
-use Rattle.body_states.specs.declared.ranges.ColumnRange.{ColumnRange}
 use Rattle.body_states.specs.declared.sources.TheConstants.{KEPT_COLUMNS}
-use Rattle.body_states.specs.Bases.{IsServed, IsWhole}
 
 -- a quantity of the columns of a view along some axes of the files, over the times from a first to a last
 pub record Asked : Type 0 where
@@ -24,18 +23,26 @@ pub record Asked : Type 0 where
   pub first : ℤ
   pub last : ℤ
 
-abbrev pub asked_of : View → RangeQuestion → Asked
+abbrev pub asked_of : View → ColumnQuestion → Asked
 asked_of v q = record { view = v; quantity = q.quantity; axes = q.axes; first = q.times.now.first; last = q.times.now.last }
 
--- the values and the changes of a series, of a column along an axis, and of a granule along an axis
-abbrev pub series_range : Quantity → ℤ → ℤ → Series → ColumnRange
-series_range quantity a b s = record { values = value_interval quantity s a b; changes = step_interval quantity s a b }
-
+-- the values and the changes of a column along an axis
 abbrev pub column_range : Asked → ℕ → ℕ → ColumnRange
-column_range q number axis = series_range q.quantity q.first q.last (series_at q.view.ephemeris number axis q.first)
+column_range q number axis =
+    let s = series_at q.view.ephemeris number axis q.first in
+    record { values = value_interval q.quantity s q.first q.last; changes = step_interval q.quantity s q.first q.last }
 
-abbrev pub range_along : GranuleSpan → Quantity → ℕ → ColumnRange
-range_along s quantity axis = series_range quantity s.times.now.first s.times.now.last (series_of s.granule axis)
+-- the enclosure of a series, or, if the middle is not looked at, one whose mid and range both hold all values
+abbrev pub series_parts : Bool → Quantity → ℤ → ℤ → Series → Enclosure
+series_parts true quantity a b s = series_enclosure quantity a b s
+series_parts false quantity a b s = record { mid = value_interval quantity s a b; range = value_interval quantity s a b; step = step_interval quantity s a b }
+
+-- that of a granule along an axis, and of a column
+abbrev pub granule_parts : GranuleSpan → Bool → Quantity → ℕ → Enclosure
+granule_parts s centred quantity axis = series_parts centred quantity s.times.now.first s.times.now.last (series_of s.granule axis)
+
+abbrev pub column_parts : Bool → Asked → ℕ → ℕ → Enclosure
+column_parts centred q number axis = series_parts centred q.quantity q.first q.last (series_at q.view.ephemeris number axis q.first)
 
 -- ---- the axes of the files that axes of a frame are made of
 abbrev pub own_axes : Frame → Axes → Axes
@@ -46,37 +53,45 @@ own_axes Ecl axes = record { x = axes.x; y = axes.y || axes.z; z = axes.y || axe
 abbrev pub is_any : Axes → Bool
 is_any axes = axes.x || (axes.y || axes.z)
 
-abbrev pub nothing_along : AxisRanges
+abbrev pub nothing_along : AxisEntries
 nothing_along = record { x = None; y = None; z = None }
 
-abbrev pub if_wanted : Bool → ColumnRange → Option ColumnRange
-if_wanted true range = Some range
-if_wanted false range = None
+abbrev pub if_wanted : Bool → Enclosure → Option Enclosure
+if_wanted true parts = Some parts
+if_wanted false parts = None
 
-abbrev pub wanted_along : Axes → (ℕ → ColumnRange) → AxisRanges
-wanted_along axes ranges = record { x = if_wanted axes.x (ranges 0); y = if_wanted axes.y (ranges 1); z = if_wanted axes.z (ranges 2) }
+abbrev pub wanted_along : Axes → (ℕ → Enclosure) → AxisEntries
+wanted_along axes parts = record { x = if_wanted axes.x (parts 0); y = if_wanted axes.y (parts 1); z = if_wanted axes.z (parts 2) }
 
-abbrev pub range_at : AxisRanges → ℕ → Option ColumnRange
-range_at r zero = r.x
-range_at r (suc zero) = r.y
-range_at r (suc (suc axis)) = r.z
+abbrev pub entry_at : AxisEntries → ℕ → Option Enclosure
+entry_at e zero = e.x
+entry_at e (suc zero) = e.y
+entry_at e (suc (suc axis)) = e.z
 
 -- ---- of a column, and of the first columns in use, as many as are kept
 abbrev pub nothing_entered : ColumnEntry
 nothing_entered = record { number = 0; along = nothing_along }
 
-abbrev pub entry_of : Asked → ℕ → ColumnEntry
-entry_of q number = record { number = number; along = wanted_along q.axes (column_range q number) }
+abbrev pub entry_of : Bool → Asked → ℕ → ColumnEntry
+entry_of centred q number = record { number = number; along = wanted_along q.axes (column_parts centred q number) }
+
+abbrev pub asked_entry : View → ColumnQuestion → ℕ → ColumnEntry
+asked_entry v q number = entry_of q.is_centred (asked_of v q) number
 
 abbrev pub kept_columns : View → List ℕ
 kept_columns v = take KEPT_COLUMNS (columns_of v)
 
-abbrev pub IsEntryAt : Asked → List ColumnEntry → ℕ → Type 0
-IsEntryAt q entries place = slice_index_or entries place nothing_entered ≡ entry_of q (slice_index_or (columns_of q.view) place 0)
+abbrev pub IsEntryAt : Bool → Asked → List ColumnEntry → ℕ → Type 0
+IsEntryAt centred q entries place = slice_index_or entries place nothing_entered ≡ entry_of centred q (slice_index_or (columns_of q.view) place 0)
 
-abbrev pub AreEntries : Asked → List ColumnEntry → Type 0
-AreEntries q entries = (place : ℕ) → place < length (columns_of q.view) → place < KEPT_COLUMNS → IsEntryAt q entries place
+abbrev pub AreEntries : Bool → Asked → List ColumnEntry → Type 0
+AreEntries centred q entries = (place : ℕ) → place < length (columns_of q.view) → place < KEPT_COLUMNS → IsEntryAt centred q entries place
 
--- ---- rows over all times that are kept are right for each granule that they serve
-abbrev pub AreRowsKept : ℤ → ℤ → Quantity → RowRoom → Type 0
-AreRowsKept a b quantity room = (s : GranuleSpan) → s.times.now.first ≡ a → s.times.now.last ≡ b → IsServed s.granule room → IsWhole s quantity room.whole
+-- if some axis is wanted
+abbrev pub AreWritten : Bool → Asked → List ColumnEntry → Type 0
+AreWritten centred q entries = is_any q.axes ≡ true → AreEntries centred q entries
+
+-- ---- the columns are written in two rounds: in the first those that share rows with others, which want some entries
+abbrev pub turn_of : ℕ → ℕ → ℕ → ℕ
+turn_of count zero place = count + place
+turn_of count (suc entries) place = place

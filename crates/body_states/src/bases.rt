@@ -10,14 +10,14 @@ use eph_model::Granule;
 use spec_bodies::Quantity;
 use spec_chebyshev::Ival62;
 
-/// The row of a quantity's values over an interval of arguments: T for positions and slopes for velocities.
+/// The row of a quantity's basis over some arguments: T_0, T_1, .. for positions, slopes of T_1, .. for velocities.
 #[derive(Drop)]
 pub(crate) struct PlainRow {
     pub arguments: Ival62,
     pub values: Row,
 }
 
-/// The same, with the row of the quantity's changes: Q for positions and the changes of slopes for velocities.
+/// The rows of a quantity's basis and of its changes: these are Q for positions, and changes of slopes for velocities.
 #[derive(Drop)]
 pub(crate) struct Rows {
     pub plain: PlainRow,
@@ -25,7 +25,7 @@ pub(crate) struct Rows {
 }
 
 impl PlainRow {
-    /// A row of which no entry is made.
+    /// Returns a row whose entries have not been made yet, with the single argument 0.
     #[inline(always)]
     pub fn none() -> PlainRow {
         PlainRow {
@@ -34,9 +34,9 @@ impl PlainRow {
         }
     }
 
-    /// Makes its first `n` entries.
+    /// Notes these arguments, and writes the row of a quantity's basis over them as far as sums over `n` terms read it.
     #[inline(always)]
-    pub fn make(&mut self, quantity: Quantity, arguments: Ival62, n: usize)
+    pub fn make_entries(&mut self, quantity: Quantity, arguments: Ival62, n: usize)
         requires arguments { IsArguments arguments }
         requires few { n ≤ 32 }
         ensures arguments { self.new.arguments ≡ arguments }
@@ -51,7 +51,7 @@ impl PlainRow {
 }
 
 impl Rows {
-    /// Rows of which no entry is made.
+    /// Returns two rows whose entries have not been made yet, with the single argument 0.
     #[inline(always)]
     pub fn none() -> Rows {
         Rows {
@@ -60,9 +60,9 @@ impl Rows {
         }
     }
 
-    /// Makes the first `n` entries of both.
+    /// Notes these arguments, and writes the rows of the basis and its changes as far as sums over `n` terms read them.
     #[inline(always)]
-    pub fn make(&mut self, quantity: Quantity, arguments: Ival62, n: usize)
+    pub fn make_entries(&mut self, quantity: Quantity, arguments: Ival62, n: usize)
         requires arguments { IsArguments arguments }
         requires few { n ≤ 32 }
         ensures arguments { self.new.plain.arguments ≡ arguments }
@@ -78,8 +78,7 @@ impl Rows {
     }
 }
 
-/// The row in the middle of some times, and where there are several the rows over all of them, with the granules whose
-/// rows they are: when these begin, how long they take and how many entries are made.
+/// The row in the middle of some times and, if several, the rows over all, for granules with one `start` and `seconds`.
 #[derive(Drop)]
 pub(crate) struct RowRoom {
     pub start: i64,
@@ -90,7 +89,7 @@ pub(crate) struct RowRoom {
 }
 
 impl RowRoom {
-    /// Room in which no row is made.
+    /// Returns room for rows, of which no entry has been made yet, so that they fit no granule with coefficients.
     #[inline(always)]
     pub fn new() -> RowRoom
         ensures { result.entries ≡ 0 }
@@ -104,15 +103,15 @@ impl RowRoom {
         }
     }
 
-    /// Whether its rows are those of a granule.
+    /// Tells whether the rows serve a granule: one with their start and length and no more coefficients than entries.
     #[inline(always)]
-    pub fn serves(&self, granule: &Granule) -> bool
+    pub fn has_rows_for(&self, granule: &Granule) -> bool
         ensures { IsTrue result → IsServed granule.now self.now }
     {
         granule.start == self.start && granule.seconds == self.seconds && granule.n <= self.entries
     }
 
-    /// Turns to the rows of a granule with some number of entries.
+    /// Notes a granule's start and length and a number of entries for rows that the caller has still to write.
     #[inline(always)]
     pub fn turn_to(&mut self, granule: &Granule, entries: usize)
         requires { granule.now.n ≤ entries }

@@ -1,74 +1,79 @@
 // What columns are along each axis, over a span of times.
 ghost use Rattle.std.specs.Prelude.{◌≡◌, ◌<◌, Any, Contains, IfSome, IsSome};
-ghost use Rattle.body_states.specs.Ranges.{nothing_along, nothing_entered, range_at};
+ghost use Rattle.body_states.specs.Ranges.{entry_at, nothing_along, nothing_entered};
 
-use crate::axes::by_axis;
-use crate::ranges::ColumnRange;
 use event_expr::Axes;
 use event_expr::rules::TimeSpan;
+use ival_core::Enclosure;
 use spec_bodies::Quantity;
 
-/// What a column is along the three axes; none along an axis that was not asked for.
+/// What a column is along the three axes, in km or km per unit of time; none along an axis that was not asked for.
 #[derive(Clone, Copy)]
-pub(crate) struct AxisRanges {
-    pub x: Option<ColumnRange>,
-    pub y: Option<ColumnRange>,
-    pub z: Option<ColumnRange>,
+pub(crate) struct AxisEntries {
+    pub x: Option<Enclosure>,
+    pub y: Option<Enclosure>,
+    pub z: Option<Enclosure>,
 }
 
-/// The same, with the column's number, counted from 1; where nothing is known, it is 0.
+/// What a column is along the three axes, with its number, counted from 1. The number is 0 in an entry for no column.
 #[derive(Clone, Copy)]
 pub(crate) struct ColumnEntry {
     pub number: usize,
-    pub along: AxisRanges,
+    pub along: AxisEntries,
 }
 
-/// A quantity of columns along some axes of the files, over a span of times.
+/// A question for a quantity of columns along some axes of the files, over a span of times. If it is centred, the
+/// answer is an enclosure with the value in the middle of the times; if not, the range stands for that value as well.
 #[derive(Clone, Copy)]
-pub(crate) struct RangeQuestion<'q> {
+pub(crate) struct ColumnQuestion<'q> {
+    pub is_centred: bool,
     pub quantity: Quantity,
     pub axes: Axes,
     pub times: &'q TimeSpan,
 }
 
-impl AxisRanges {
-    /// Nothing is known along any axis.
+impl AxisEntries {
+    /// Returns entries that are none along all three axes.
     #[inline(always)]
-    pub fn none() -> AxisRanges
+    pub fn none() -> AxisEntries
         ensures { result ≡ nothing_along }
     {
-        AxisRanges {
+        AxisEntries {
             x: None,
             y: None,
             z: None,
         }
     }
 
-    /// What is known along an axis, counted from 0.
+    /// Returns the enclosure along an axis, counted from 0 for x, or None if that axis was not asked for.
     #[inline(always)]
-    pub fn along(&self, axis: usize) -> Option<ColumnRange>
+    pub fn enclosure_along(&self, axis: usize) -> Option<Enclosure>
         requires { axis < 3 }
-        ensures { result ≡ range_at self.now axis }
+        ensures { result ≡ entry_at self.now axis }
     {
-        *by_axis(axis, &self.x, &self.y, &self.z)
+        match axis {
+            0 => self.x,
+            1 => self.y,
+            _ => self.z,
+        }
     }
 }
 
 impl ColumnEntry {
-    /// Nothing is known of a column.
+    /// Returns an entry for no column: its number is 0, which no column has, and it is none along all three axes.
     #[inline(always)]
     pub fn none() -> ColumnEntry
         ensures { result ≡ nothing_entered }
     {
         ColumnEntry {
             number: 0,
-            along: AxisRanges::none(),
+            along: AxisEntries::none(),
         }
     }
 }
 
-/// What is entered of a column.
-pub(crate) fn entered(columns: &[ColumnEntry], number: usize) -> Option<&AxisRanges>
+/// Returns the enclosures of the first entry with a column's number, counted from 1, or None if no entry has it.
+pub(crate) fn find_axis_entries(columns: &[ColumnEntry], number: usize) -> Option<&AxisEntries>
     ensures found { IfSome result
         (λ along. Contains columns.now (record { number = number; along = along.now })) }
     ensures made { Any (λ column. column.number ≡ number) columns.now → IsSome result }

@@ -1,203 +1,153 @@
 // What is made of the columns in use over a span of times, with each basis made once.
-ghost use Rattle.std.specs.Prelude.{◌≡◌, ◌<◌, ℕ, All, IfSome, Contains};
+ghost use Rattle.std.specs.Prelude.{◌≡◌, ◌+◌, ◌*◌, ◌<◌, ◌≤◌, true, ℕ, length, Contains, IfSome, IsSome};
 ghost use Rattle.spec_ephemeris.specs.Granules.{series_at, series_of};
-ghost use Rattle.spec_bodies.specs.Reading.{IsReadable, IsUsable};
-ghost use Rattle.spec_bodies.specs.Views.{Fits, column_enclosure, columns_of};
+ghost use Rattle.spec_bodies.specs.Reading.{IsUsable};
+ghost use Rattle.spec_bodies.specs.Views.{Fits};
+ghost use Rattle.event_expr.specs.Leaves.{has_axis};
 ghost use Rattle.body_states.specs.Bases.{AreKept};
 ghost use Rattle.body_states.specs.Dividers.{granule_seconds};
-ghost use Rattle.body_states.specs.Enclosures.{AreKnown, AreRead, AreReadOrNot, IsKnown, IsRead, IsUnread};
+ghost use Rattle.body_states.specs.Ranges.{AreEntries, AreWritten, asked_entry, asked_of, column_parts, is_any, kept_columns, turn_of};
 
 use crate::bases::RowRoom;
-use crate::enclosures::{AxisEnclosures, ColumnEnclosures};
+use crate::column_entries::{ColumnEntry, ColumnQuestion, find_axis_entries};
 use crate::granule_span::GranuleSpan;
 use crate::sources::KEPT_COLUMNS;
 use crate::states::{BodyStates, divider_of};
 use event_expr::Axes;
 use event_expr::rules::TimeSpan;
 use ival_core::{Divider, Enclosure};
-use spec_bodies::Quantity;
 
 impl<'e> BodyStates<'e> {
-    /// Writes the first columns in use along some axes of the files, as many as are kept, of which none is written yet; where
-    /// no axis is wanted, nothing is made.
-    pub(crate) fn write_wanted(
+    /// Writes the entries of the first four columns in use along the question's axes, or of all if there are fewer.
+    /// If the question has no axis, nothing is written, and the time for clearing room for rows is saved.
+    pub(crate) fn write_entries(
         &self,
-        quantity: Quantity,
-        times: &TimeSpan,
-        axes: Axes,
-        columns: &mut [ColumnEnclosures; KEPT_COLUMNS],
+        question: &ColumnQuestion,
+        columns: &mut [ColumnEntry; KEPT_COLUMNS],
     )
-        requires fits { Fits self.now times.now.first times.now.last }
-        requires known { AreKnown self.now quantity times.now.first times.now.last columns.old }
-        requires unread { All IsUnread columns.old }
-        ensures { AreKnown self.now quantity times.now.first times.now.last columns.new }
+        requires { Fits self.now question.now.times.now.first question.now.times.now.last }
+        ensures entries { AreWritten question.now.is_centred (asked_of self.now question.now) columns.new }
+        ensures count { length columns.new ≡ 4 }
     {
-        if axes.x || axes.y || axes.z {
-            self.write_columns(quantity, times, axes, columns);
+        if has_any_axis(question.axes) {
+            self.write_wanted(question, columns);
         }
     }
 
-    // Writes the first columns in use along some axes, as many as are kept, of which none is written yet. Those with
-    // granules as long as those of others come first, one behind another, so that they share their rows.
+    // Writes the entries of the first four columns in use, or of all if fewer. Columns whose granules are as long as
+    // another's come first, one behind another, to share the rows in `room`; the others come in a second round.
     #[inline(never)]
-    fn write_columns(
-        &self,
-        quantity: Quantity,
-        times: &TimeSpan,
-        axes: Axes,
-        columns: &mut [ColumnEnclosures; KEPT_COLUMNS],
-    )
-        requires fits { Fits self.now times.now.first times.now.last }
-        requires known { AreKnown self.now quantity times.now.first times.now.last columns.old }
-        requires unread { All IsUnread columns.old }
-        ensures right { AreKnown self.now quantity times.now.first times.now.last columns.new }
-        ensures made { AreRead axes (columns_of self.now) columns.new }
-    {
-        let mut room = RowRoom::new();
-        self.write_shared(quantity, times, axes, &mut room, columns);
-        self.write_others(quantity, times, axes, &mut room, columns);
-    }
-
-    // Writes those with granules as long as those of others.
-    fn write_shared(
-        &self,
-        quantity: Quantity,
-        times: &TimeSpan,
-        axes: Axes,
-        room: &mut RowRoom,
-        columns: &mut [ColumnEnclosures; KEPT_COLUMNS],
-    )
-        requires fits { Fits self.now times.now.first times.now.last }
-        requires kept { AreKept times.now.first times.now.last quantity room.old }
-        requires known { AreKnown self.now quantity times.now.first times.now.last columns.old }
-        requires unread { AreReadOrNot axes (columns_of self.now) columns.old }
-        ensures kept { AreKept times.now.first times.now.last quantity room.new }
-        ensures right { AreKnown self.now quantity times.now.first times.now.last columns.new }
-        ensures read { AreReadOrNot axes (columns_of self.now) columns.new }
+    fn write_wanted(&self, question: &ColumnQuestion, columns: &mut [ColumnEntry; KEPT_COLUMNS])
+        requires { Fits self.now question.now.times.now.first question.now.times.now.last }
+        ensures entries { AreEntries question.now.is_centred (asked_of self.now question.now) columns.new }
+        ensures count { length columns.new ≡ 4 }
     {
         let numbers = self.columns();
         let dividers = self.dividers();
         let entries = self.entries();
-        let sharing = self.sharing().min(KEPT_COLUMNS);
-        for place in 0..numbers.len().min(sharing) {
-            if entries[place] > 0 {
+        let mut room = RowRoom::new();
+        let count = numbers.len().min(KEPT_COLUMNS);
+        for turn in 0..2 * count {
+            let place = place_at(turn, count);
+            if writing_turn(place, count, entries[place]) == turn {
                 let column = &mut columns[place];
-                self.write_column(
-                    numbers[place],
-                    &dividers[place],
-                    entries[place],
-                    quantity,
-                    times,
-                    axes,
-                    room,
-                    column,
-                );
-            }
-        }
-    }
-
-    // Writes those that are not written yet.
-    fn write_others(
-        &self,
-        quantity: Quantity,
-        times: &TimeSpan,
-        axes: Axes,
-        room: &mut RowRoom,
-        columns: &mut [ColumnEnclosures; KEPT_COLUMNS],
-    )
-        requires fits { Fits self.now times.now.first times.now.last }
-        requires kept { AreKept times.now.first times.now.last quantity room.old }
-        requires known { AreKnown self.now quantity times.now.first times.now.last columns.old }
-        requires read { AreReadOrNot axes (columns_of self.now) columns.old }
-        ensures right { AreKnown self.now quantity times.now.first times.now.last columns.new }
-        ensures made { AreRead axes (columns_of self.now) columns.new }
-    {
-        let numbers = self.columns();
-        let dividers = self.dividers();
-        for place in 0..numbers.len().min(KEPT_COLUMNS) {
-            if columns[place].number == 0 {
                 let divider = &dividers[place];
-                let column = &mut columns[place];
-                self.write_column(
+                self.write_entry(
                     numbers[place],
                     divider,
-                    0,
-                    quantity,
-                    times,
-                    axes,
-                    room,
+                    entries[place],
+                    question,
+                    &mut room,
                     column,
                 );
             }
         }
     }
 
-    // Writes a column along some axes, and forgets what stood there.
+    // Writes a column's entry along the question's axes. `divider` divides by the seconds of its granules, new rows get
+    // at least `entries` entries (if at most 32), and rows in `room` from the column before are kept if they fit.
     #[inline(always)]
-    fn write_column(
+    fn write_entry(
         &self,
         number: usize,
         divider: &Divider,
         entries: usize,
-        quantity: Quantity,
-        times: &TimeSpan,
-        axes: Axes,
+        question: &ColumnQuestion,
         room: &mut RowRoom,
-        column: &mut ColumnEnclosures,
+        column: &mut ColumnEntry,
     )
-        requires fits { Fits self.now times.now.first times.now.last }
+        requires fits { Fits self.now question.now.times.now.first question.now.times.now.last }
         requires usable { IsUsable self.now number }
         requires divider { divider.now ≡ granule_seconds self.now.ephemeris number }
-        requires kept { AreKept times.now.first times.now.last quantity room.old }
-        ensures kept { AreKept times.now.first times.now.last quantity room.new }
-        ensures right { IsKnown self.now quantity times.now.first times.now.last column.new }
-        ensures made { IsRead axes number column.new }
+        requires kept { AreKept question.now room.old }
+        ensures kept { AreKept question.now room.new }
+        ensures entry { column.new ≡ asked_entry self.now question.now number }
     {
         column.number = number;
-        column.along = AxisEnclosures::none();
-        let span = self.granule_span(number, times, divider);
-        span.write_along(quantity, axes, entries, room, &mut column.along);
+        let span = self.granule_span(number, question.times, divider);
+        span.write_along(question, entries, room, &mut column.along);
     }
 
-    /// A coordinate of a column in use, from what is known of it or else from its granule.
-    pub(crate) fn column_over(
+    // Returns a column's enclosure along an axis, 0 for x, from the entries, or None if these lack the column or axis.
+    fn kept_enclosure(
         &self,
-        quantity: Quantity,
+        question: &ColumnQuestion,
+        columns: &[ColumnEntry; KEPT_COLUMNS],
         number: usize,
         axis: usize,
-        times: &TimeSpan,
-        columns: &[ColumnEnclosures],
-    ) -> Enclosure
-        requires fits { Fits self.now times.now.first times.now.last }
-        requires known { AreKnown self.now quantity times.now.first times.now.last columns.now }
-        requires readable { IsReadable self.now number axis }
-        ensures { result
-            ≡ column_enclosure self.now quantity times.now.first times.now.last number axis }
+    ) -> Option<Enclosure>
+        requires entries { AreEntries question.now.is_centred (asked_of self.now question.now) columns.now }
+        requires axis { axis < 3 }
+        ensures right { IfSome result (λ parts. parts
+            ≡ column_parts question.now.is_centred (asked_of self.now question.now) number axis) }
+        ensures made { Contains (kept_columns self.now) number
+            → has_axis question.now.axes axis ≡ true → IsSome result }
     {
-        match known(columns, number) {
-            Some(enclosures) => match enclosures.along(axis) {
-                Some(enclosure) => enclosure,
-                None => self.read(quantity, number, axis, times),
-            },
-            None => self.read(quantity, number, axis, times),
+        let count = self.columns().len().min(KEPT_COLUMNS);
+        match find_axis_entries(&columns[..count], number) {
+            Some(along) => along.enclosure_along(axis),
+            None => None,
         }
     }
 
-    // A coordinate of a column in use that is read from its granule.
-    #[inline(never)]
-    fn read(&self, quantity: Quantity, number: usize, axis: usize, times: &TimeSpan) -> Enclosure
-        requires fits { Fits self.now times.now.first times.now.last }
-        requires readable { IsReadable self.now number axis }
-        ensures { result
-            ≡ column_enclosure self.now quantity times.now.first times.now.last number axis }
+    /// Returns a column's enclosure along an axis, 0 for x: from the entries, or evaluated now if it is not among them.
+    pub(crate) fn column_enclosure(
+        &self,
+        question: &ColumnQuestion,
+        columns: &[ColumnEntry; KEPT_COLUMNS],
+        number: usize,
+        axis: usize,
+    ) -> Enclosure
+        requires fits { Fits self.now question.now.times.now.first question.now.times.now.last }
+        requires entries { AreWritten question.now.is_centred (asked_of self.now question.now) columns.now }
+        requires usable { IsUsable self.now number }
+        requires axis { axis < 3 }
+        ensures { result ≡ column_parts question.now.is_centred (asked_of self.now question.now) number axis }
     {
-        let divider = divider_of(self.ephemeris, number);
-        let span = self.granule_span(number, times, &divider);
-        span.enclosure(quantity, axis)
+        if !has_any_axis(question.axes) {
+            return self.evaluate_column(question, number, axis);
+        }
+        match self.kept_enclosure(question, columns, number, axis) {
+            Some(parts) => parts,
+            None => self.evaluate_column(question, number, axis),
+        }
     }
 
-    /// The granule of a column over times that lie within it, with the divider by the column's granules.
-    pub(crate) fn granule_span<'a>(
+    // Evaluates a column in use along an axis, counted from 0 for x, anew from the granule in which the times lie.
+    #[inline(never)]
+    fn evaluate_column(&self, question: &ColumnQuestion, number: usize, axis: usize) -> Enclosure
+        requires fits { Fits self.now question.now.times.now.first question.now.times.now.last }
+        requires usable { IsUsable self.now number }
+        requires axis { axis < 3 }
+        ensures { result ≡ column_parts question.now.is_centred (asked_of self.now question.now) number axis }
+    {
+        let divider = divider_of(self.ephemeris, number);
+        let span = self.granule_span(number, question.times, &divider);
+        span.enclosure_by_new_rows(question, axis)
+    }
+
+    // Returns a column's granule in which some times lie, with these times and the divider by the granule's seconds.
+    fn granule_span<'a>(
         &'a self,
         number: usize,
         times: &'a TimeSpan,
@@ -219,16 +169,33 @@ impl<'e> BodyStates<'e> {
     }
 }
 
-// What is known of a column.
-fn known(columns: &[ColumnEnclosures], number: usize) -> Option<&AxisEnclosures>
-    ensures { IfSome result
-        (λ along. Contains columns.now (record { number = number; along = along.now })) }
+// Returns the place in a list of `count` columns that a turn is for: the turns go through all places twice, in order.
+#[inline(always)]
+fn place_at(turn: usize, count: usize) -> usize
+    requires { turn < 2 * count }
+    ensures below { result < count }
+    ensures first { turn < count → result ≡ turn }
+    ensures second { count ≤ turn → count + result ≡ turn }
 {
-    for place in 0..columns.len() {
-        let column = &columns[place];
-        if column.number == number {
-            return Some(&column.along);
-        }
+    if turn < count { turn } else { turn - count }
+}
+
+// Returns the turn in which a place's column is written: in the second round if it shares no rows (`entries` is 0).
+#[inline(always)]
+fn writing_turn(place: usize, count: usize, entries: usize) -> usize
+    requires place { place < count }
+    requires few { count ≤ 4 }
+    ensures { result ≡ turn_of count entries place }
+{
+    match entries {
+        0 => count + place,
+        _ => place,
     }
-    None
+}
+
+/// Tells whether a set of axes has at least one axis.
+pub(crate) fn has_any_axis(axes: Axes) -> bool
+    ensures { result ≡ is_any axes }
+{
+    axes.x || axes.y || axes.z
 }

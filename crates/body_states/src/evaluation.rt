@@ -1,119 +1,98 @@
-// The enclosures of a quantity over times within a granule, with each basis made once for all axes, and for all granules
-// that begin and end together.
-ghost use Rattle.std.specs.Prelude.{◌≡◌, ◌<◌, ◌≤◌, length};
+// What a quantity is within a granule, with one basis for all axes and all granules that begin and end together.
+ghost use Rattle.std.specs.Prelude.{◌≡◌, ◌<◌, ◌≤◌, Bool, true, false, length};
 ghost use Rattle.spec_intervals.specs.Enclosure.{middle};
-ghost use Rattle.body_states.specs.Enclosures.{AreAlong, AreMade, enclosure_along};
-ghost use Rattle.body_states.specs.Bases.{ArePlain, AreAll, AreKept, AreOver, IsCentre, IsServed, IsWhole, IsSingle, AreSeveral, value_over, step_over};
+ghost use Rattle.body_states.specs.Bases.{ArePlain, AreAll, AreKept, AreOver, AreRows, IsCentre, IsServed, IsWhole, IsSingle, AreSeveral, value_over, step_over};
+ghost use Rattle.body_states.specs.Ranges.{granule_parts, if_wanted, wanted_along};
 
 use crate::bases::{PlainRow, RowRoom, Rows};
-use crate::enclosures::AxisEnclosures;
+use crate::column_entries::{AxisEntries, ColumnQuestion};
 use crate::granule_span::GranuleSpan;
 use cheby_difference::{position_step_over_row, velocity_over_row, velocity_step_over_row};
 use cheby_enclose::{AxisCoefficients, argument_at, arguments_by, position_over_row};
-use event_expr::Axes;
 use ival_core::{Divider, Enclosure, Ival};
 use spec_bodies::Quantity;
 
 impl<'g> GranuleSpan<'g> {
-    /// Writes the enclosures of a quantity, a position in km or a velocity in km per unit of time, along some axes. Rows that
-    /// are not kept are made, with as many entries at least.
-    #[inline(always)]
+    /// Writes the enclosures of the question's quantity along the question's axes, and none along the others. If the
+    /// rows in `room` do not fit the granule, new ones are made, with `entries` entries or as many as are needed.
+    #[inline(never)]
     pub fn write_along(
         &self,
-        quantity: Quantity,
-        axes: Axes,
+        question: &ColumnQuestion,
         entries: usize,
         room: &mut RowRoom,
-        out: &mut AxisEnclosures,
+        out: &mut AxisEntries,
     )
-        requires kept { let times = self.now.times.now in
-            AreKept times.first times.last quantity room.old }
-        requires known { AreAlong (enclosure_along self.now quantity) out.old }
-        ensures kept { let times = self.now.times.now in
-            AreKept times.first times.last quantity room.new }
-        ensures right { AreAlong (enclosure_along self.now quantity) out.new }
-        ensures made { AreMade axes out.new }
+        requires times { self.now.times.now ≡ question.now.times.now }
+        requires kept { AreKept question.now room.old }
+        ensures kept { AreKept question.now room.new }
+        ensures along { out.new ≡ wanted_along question.now.axes
+            (granule_parts self.now question.now.is_centred question.now.quantity) }
     {
-        if self.times.has_several() {
-            self.along_over(quantity, axes, entries, room, out);
-        } else {
-            self.along_at(quantity, axes, entries, room, out);
-        }
+        self.keep_rows(question, entries, room);
+        out.x = self.wanted_enclosure(question.axes.x, question, 0, room);
+        out.y = self.wanted_enclosure(question.axes.y, question, 1, room);
+        out.z = self.wanted_enclosure(question.axes.z, question, 2, room);
     }
 
-    // Writes them over several times.
-    #[inline(never)]
-    fn along_over(
-        &self,
-        quantity: Quantity,
-        axes: Axes,
-        entries: usize,
-        room: &mut RowRoom,
-        out: &mut AxisEnclosures,
-    )
-        requires several { AreSeveral self.now }
-        requires kept { let times = self.now.times.now in
-            AreKept times.first times.last quantity room.old }
-        requires known { AreAlong (enclosure_along self.now quantity) out.old }
-        ensures kept { let times = self.now.times.now in
-            AreKept times.first times.last quantity room.new }
-        ensures right { AreAlong (enclosure_along self.now quantity) out.new }
-        ensures made { AreMade axes out.new }
+    /// Returns the enclosure of the question's quantity along any axis, 0 for x, by rows that are made for this call.
+    pub fn enclosure_by_new_rows(&self, question: &ColumnQuestion, axis: usize) -> Enclosure
+        requires times { self.now.times.now ≡ question.now.times.now }
+        requires axis { axis < 3 }
+        ensures { result ≡ granule_parts self.now question.now.is_centred question.now.quantity axis }
     {
-        self.keep_over(quantity, entries, room);
-        for axis in 0..3 {
-            if axes.has(axis) {
-                out.set(axis, self.over(quantity, axis, room));
-            }
-        }
-    }
-
-    // Writes them at a single time, for which neither a row over several nor one of changes is made.
-    #[inline(never)]
-    fn along_at(
-        &self,
-        quantity: Quantity,
-        axes: Axes,
-        entries: usize,
-        room: &mut RowRoom,
-        out: &mut AxisEnclosures,
-    )
-        requires single { IsSingle self.now }
-        requires kept { let times = self.now.times.now in
-            AreKept times.first times.last quantity room.old }
-        requires known { AreAlong (enclosure_along self.now quantity) out.old }
-        ensures kept { let times = self.now.times.now in
-            AreKept times.first times.last quantity room.new }
-        ensures right { AreAlong (enclosure_along self.now quantity) out.new }
-        ensures made { AreMade axes out.new }
-    {
-        self.keep_at(quantity, entries, room);
-        for axis in 0..3 {
-            if axes.has(axis) {
-                out.set(axis, self.at(quantity, axis, &room.centre));
-            }
-        }
-    }
-
-    /// The enclosure along an axis, counted from 0.
-    pub fn enclosure(&self, quantity: Quantity, axis: usize) -> Enclosure
-        requires { axis < 3 }
-        ensures { result ≡ enclosure_along self.now quantity axis }
-    {
-        let mut made = AxisEnclosures::none();
         let mut room = RowRoom::new();
-        self.write_along(quantity, Axes::one(axis as u8), 0, &mut room, &mut made);
-        made.along(axis).unwrap()
+        self.keep_rows(question, 0, &mut room);
+        self.enclosure_by_rows(question, axis, &room)
     }
 
-    // The range over all times is cut to what the value in the middle and the steps from it allow.
+    // Returns the enclosure of the question's quantity along an axis, counted from 0 for x, or None if not wanted.
     #[inline(always)]
-    fn over(&self, quantity: Quantity, axis: usize, room: &RowRoom) -> Enclosure
+    fn wanted_enclosure(
+        &self,
+        is_wanted: bool,
+        question: &ColumnQuestion,
+        axis: usize,
+        room: &RowRoom,
+    ) -> Option<Enclosure>
+        requires axis { axis < 3 }
+        requires rows { AreRows self.now question.now.is_centred question.now.quantity room.now }
+        ensures { result ≡ if_wanted is_wanted
+            (granule_parts self.now question.now.is_centred question.now.quantity axis) }
+    {
+        if is_wanted {
+            Some(self.enclosure_by_rows(question, axis, room))
+        } else {
+            None
+        }
+    }
+
+    // Returns the enclosure of the question's quantity along an axis, counted from 0 for x, by rows that were made
+    // for this granule. At a single time, and if the question is not centred, less is calculated.
+    #[inline(always)]
+    fn enclosure_by_rows(&self, question: &ColumnQuestion, axis: usize, room: &RowRoom) -> Enclosure
+        requires axis { axis < 3 }
+        requires rows { AreRows self.now question.now.is_centred question.now.quantity room.now }
+        ensures { result ≡ granule_parts self.now question.now.is_centred question.now.quantity axis }
+    {
+        if !self.times.has_several() {
+            self.single_time_enclosure(question.quantity, axis, &room.centre)
+        } else if question.is_centred {
+            self.centred_enclosure(question.quantity, axis, room)
+        } else {
+            self.uncentred_enclosure(question.quantity, axis, &room.whole)
+        }
+    }
+
+    // Returns a quantity's enclosure over several times along an axis, with its range cut to what the steps reach from
+    // the value in the middle.
+    #[inline(never)]
+    fn centred_enclosure(&self, quantity: Quantity, axis: usize, room: &RowRoom) -> Enclosure
         requires axis { axis < 3 }
         requires several { AreSeveral self.now }
         requires centre { IsCentre self.now quantity room.now.centre }
         requires whole { IsWhole self.now quantity room.now.whole }
-        ensures { result ≡ enclosure_along self.now quantity axis }
+        ensures { result ≡ granule_parts self.now true quantity axis }
     {
         let terms = AxisCoefficients::of(&self.granule, axis);
         let mid = value_over(quantity, &terms, &room.centre, self.divider);
@@ -122,77 +101,73 @@ impl<'g> GranuleSpan<'g> {
         self.times.wide(mid, range, step)
     }
 
-    // At a single time the range is the value, and nothing changes.
-    #[inline(always)]
-    fn at(&self, quantity: Quantity, axis: usize, centre: &PlainRow) -> Enclosure
+    // Returns a quantity's enclosure over several times along an axis, with the range standing for the middle as well.
+    #[inline(never)]
+    fn uncentred_enclosure(&self, quantity: Quantity, axis: usize, whole: &Rows) -> Enclosure
+        requires axis { axis < 3 }
+        requires several { AreSeveral self.now }
+        requires whole { IsWhole self.now quantity whole.now }
+        ensures { result ≡ granule_parts self.now false quantity axis }
+    {
+        let terms = AxisCoefficients::of(&self.granule, axis);
+        let range = value_over(quantity, &terms, &whole.plain, self.divider);
+        let step = step_over(quantity, &terms, whole, self.divider);
+        Enclosure {
+            mid: range,
+            range,
+            step,
+        }
+    }
+
+    // Returns a quantity's enclosure along an axis at a single time: middle and range are its value, the change is 0.
+    #[inline(never)]
+    fn single_time_enclosure(&self, quantity: Quantity, axis: usize, centre: &PlainRow) -> Enclosure
         requires axis { axis < 3 }
         requires single { IsSingle self.now }
         requires centre { IsCentre self.now quantity centre.now }
-        ensures { result ≡ enclosure_along self.now quantity axis }
+        ensures { (centred : Bool) → result ≡ granule_parts self.now centred quantity axis }
     {
         let terms = AxisCoefficients::of(&self.granule, axis);
         let mid = value_over(quantity, &terms, centre, self.divider);
         self.times.single(mid)
     }
 
-    // Makes the rows over several times, where those that are kept are not the granule's.
+    // Makes the rows that a question needs for this granule, unless those in `room` can be used for it as they are.
     #[inline(always)]
-    fn keep_over(&self, quantity: Quantity, entries: usize, room: &mut RowRoom)
-        requires several { AreSeveral self.now }
-        requires kept { let times = self.now.times.now in
-            AreKept times.first times.last quantity room.old }
-        ensures kept { let times = self.now.times.now in
-            AreKept times.first times.last quantity room.new }
-        ensures served { IsServed self.now.granule room.new }
+    fn keep_rows(&self, question: &ColumnQuestion, entries: usize, room: &mut RowRoom)
+        requires times { self.now.times.now ≡ question.now.times.now }
+        requires kept { AreKept question.now room.old }
+        ensures kept { AreKept question.now room.new }
+        ensures rows { AreRows self.now question.now.is_centred question.now.quantity room.new }
     {
-        if !room.serves(&self.granule) {
-            self.make_over(quantity, entries, room);
+        if !room.has_rows_for(&self.granule) {
+            self.make_rows(question, entries, room);
         }
     }
 
+    // Makes the rows a question needs: over all times if several, in the middle if it is centred or the time is single.
     #[inline(always)]
-    fn make_over(&self, quantity: Quantity, entries: usize, room: &mut RowRoom)
-        requires several { AreSeveral self.now }
-        ensures kept { let times = self.now.times.now in
-            AreKept times.first times.last quantity room.new }
+    fn make_rows(&self, question: &ColumnQuestion, entries: usize, room: &mut RowRoom)
+        requires { self.now.times.now ≡ question.now.times.now }
+        ensures kept { AreKept question.now room.new }
         ensures served { IsServed self.now.granule room.new }
     {
-        let made = self.as_many(entries);
+        let made = self.entries_to_make(entries);
         room.turn_to(&self.granule, made);
-        self.make_centre(quantity, made, &mut room.centre);
-        self.make_whole(quantity, made, &mut room.whole);
-    }
-
-    // Makes the row at a single time, where that which is kept is not the granule's.
-    #[inline(always)]
-    fn keep_at(&self, quantity: Quantity, entries: usize, room: &mut RowRoom)
-        requires single { IsSingle self.now }
-        requires kept { let times = self.now.times.now in
-            AreKept times.first times.last quantity room.old }
-        ensures kept { let times = self.now.times.now in
-            AreKept times.first times.last quantity room.new }
-        ensures served { IsServed self.now.granule room.new }
-    {
-        if !room.serves(&self.granule) {
-            self.make_at(quantity, entries, room);
+        if !self.times.has_several() {
+            self.make_centre(question.quantity, made, &mut room.centre);
+        } else if question.is_centred {
+            self.make_centre(question.quantity, made, &mut room.centre);
+            self.make_whole(question.quantity, made, &mut room.whole);
+        } else {
+            self.make_whole(question.quantity, made, &mut room.whole);
         }
     }
 
+    // Returns how many entries to make: as many as `entries`, but at least the granule's number of coefficients, and
+    // just that number if more than 32 entries, the length of a row, are wanted.
     #[inline(always)]
-    fn make_at(&self, quantity: Quantity, entries: usize, room: &mut RowRoom)
-        requires single { IsSingle self.now }
-        ensures kept { let times = self.now.times.now in
-            AreKept times.first times.last quantity room.new }
-        ensures served { IsServed self.now.granule room.new }
-    {
-        let made = self.as_many(entries);
-        room.turn_to(&self.granule, made);
-        self.make_centre(quantity, made, &mut room.centre);
-    }
-
-    /// As many entries as the granule has coefficients, or more where more are wanted.
-    #[inline(always)]
-    pub fn as_many(&self, entries: usize) -> usize
+    fn entries_to_make(&self, entries: usize) -> usize
         ensures enough { self.now.granule.n ≤ result }
         ensures few { result ≤ 32 }
     {
@@ -203,7 +178,7 @@ impl<'g> GranuleSpan<'g> {
         }
     }
 
-    // Makes the row of values in the middle of the times.
+    // Makes the row of a quantity's basis in the middle of the times, as far as sums over `n` terms read it.
     #[inline(always)]
     fn make_centre(&self, quantity: Quantity, n: usize, row: &mut PlainRow)
         requires few { n ≤ 32 }
@@ -212,12 +187,12 @@ impl<'g> GranuleSpan<'g> {
         ensures row { ArePlain quantity n row.new }
     {
         let argument = argument_at(&self.granule, self.middle(), self.divider);
-        row.make(quantity, argument, n);
+        row.make_entries(quantity, argument, n);
     }
 
-    /// Makes both rows over all times.
+    // Makes the rows of a quantity's basis and of its changes over all times, as far as sums over `n` terms read them.
     #[inline(always)]
-    pub fn make_whole(&self, quantity: Quantity, n: usize, rows: &mut Rows)
+    fn make_whole(&self, quantity: Quantity, n: usize, rows: &mut Rows)
         requires few { n ≤ 32 }
         ensures over { let times = self.now.times.now in
             AreOver self.now.granule times.first times.last rows.new.plain }
@@ -225,10 +200,10 @@ impl<'g> GranuleSpan<'g> {
     {
         let (first, last) = (self.times.first(), self.times.last());
         let arguments = arguments_by(&self.granule, first, last, self.divider);
-        rows.make(quantity, arguments, n);
+        rows.make_entries(quantity, arguments, n);
     }
 
-    // The time halfway, or the last before it.
+    // Returns the time halfway between the first and the last, rounded down to a whole unit of time.
     #[inline(always)]
     fn middle(&self) -> i64
         ensures { result ≡ middle self.now.times.now.first self.now.times.now.last }
@@ -238,9 +213,9 @@ impl<'g> GranuleSpan<'g> {
     }
 }
 
-/// The interval of a quantity, by the coefficients of one axis and the divider by the granule's seconds.
+// Returns the interval of a quantity along one axis, in km or km per unit of time, over the arguments of a basis's row.
 #[inline(always)]
-pub(crate) fn value_over(
+fn value_over(
     quantity: Quantity,
     terms: &AxisCoefficients,
     row: &PlainRow,
@@ -255,14 +230,9 @@ pub(crate) fn value_over(
     }
 }
 
-/// The interval of its change in one unit of time.
+// Returns the interval of a quantity's change in a unit of time along one axis, in km or km per unit of time.
 #[inline(always)]
-pub(crate) fn step_over(
-    quantity: Quantity,
-    terms: &AxisCoefficients,
-    rows: &Rows,
-    divider: &Divider,
-) -> Ival
+fn step_over(quantity: Quantity, terms: &AxisCoefficients, rows: &Rows, divider: &Divider) -> Ival
     requires rows { AreAll quantity (length terms.now) rows.now }
     ensures { result ≡ step_over quantity terms.now rows.now.plain.arguments divider.now }
 {

@@ -6,8 +6,7 @@ use eph_model::Granule;
 use event_expr::rules::TimeSpan;
 use ival_core::Divider;
 
-/// The times from a first to a last within a granule of three axes that can be evaluated, with the divider by the
-/// granule's seconds.
+/// The times from a first to a last within a granule of three axes, with the divider by the granule's seconds.
 #[derive(Clone, Copy)]
 pub(crate) struct GranuleSpan<'g> {
     pub granule: Granule<'g>,

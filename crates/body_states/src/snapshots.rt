@@ -2,15 +2,14 @@
 ghost use Rattle.std.specs.Prelude.{◌≡◌, ⊤};
 ghost use Rattle.spec_bodies.specs.Views.{Fits};
 ghost use Rattle.spec_steps.specs.ColumnTerms.{sight_of};
-ghost use Rattle.body_states.specs.Enclosures.{AreKnown};
-ghost use Rattle.body_states.specs.Moments.{meant_in};
+ghost use Rattle.body_states.specs.Moments.{AreMade, meant_in};
 
-use crate::enclosures::ColumnEnclosures;
+use crate::column_entries::{ColumnEntry, ColumnQuestion};
 use crate::sources::KEPT_COLUMNS;
 use crate::states::BodyStates;
 use column_steps::Arithmetic;
-use event_expr::Leaves;
 use event_expr::rules::{TimeSpan, cosine_interval, length_interval};
+use event_expr::{Axes, Leaves};
 use ival_core::{Enclosure, Ival};
 use spec_bodies::{Factor, Quantity};
 use spec_steps::Sight;
@@ -18,22 +17,22 @@ use spec_steps::laws::{listed_constants_are_within_limits, listed_enclosures_are
 use spec_text::Decimal;
 use std::marker::Model;
 
-/// What both targets are made of over the times from a first to a last: by the rules of an arithmetic, the enclosure of each
-/// term that may stand in a list of steps. What was wanted of the columns in use is made once: to read it for these times costs
-/// nothing more. At a single time nothing is worked out but the mids.
+/// The arithmetic of enclosures over the times from a first to a last, for lists of steps of both targets. What was
+/// wanted of the columns in use is made once, and only read afterwards. At a single time only the mids are worked out.
 #[derive(Drop)]
 pub struct Snapshot<'s, 'e> {
     states: &'s BodyStates<'e>,
     times: TimeSpan,
-    positions: [ColumnEnclosures; KEPT_COLUMNS],
-    velocities: [ColumnEnclosures; KEPT_COLUMNS],
+    position_axes: Axes,
+    positions: [ColumnEntry; KEPT_COLUMNS],
+    velocity_axes: Axes,
+    velocities: [ColumnEntry; KEPT_COLUMNS],
 }
 
 impl<'s, 'e> Model for Snapshot<'s, 'e> {
     ghost use Rattle.spec_bodies.specs.Views.{Fits};
     ghost use Rattle.spec_bodies.specs.declared.quantity.Quantity.TheVariants.{Position, Velocity};
-    ghost use Rattle.body_states.specs.Enclosures.{AreKnown};
-    ghost use Rattle.body_states.specs.Moments.{Moment};
+    ghost use Rattle.body_states.specs.Moments.{AreMade, Moment};
 
     ghost Value = { Moment };
 
@@ -43,12 +42,12 @@ impl<'s, 'e> Model for Snapshot<'s, 'e> {
       last = s.times.last;
     } };
 
-    ghost invariant = { λ s. AreKnown s.states.now Position s.times.first s.times.last s.positions
-        × AreKnown s.states.now Velocity s.times.first s.times.last s.velocities
+    ghost invariant = { λ s. AreMade s.states.now Position s.position_axes s.times.first s.times.last s.positions
+        × AreMade s.states.now Velocity s.velocity_axes s.times.first s.times.last s.velocities
         × Fits s.states.now s.times.first s.times.last };
 }
 
-/// An enclosure to be written over.
+/// Returns an enclosure whose middle, range and step are zero, with which room is filled before it is written over.
 #[inline(always)]
 pub fn blank() -> Enclosure {
     Enclosure {
@@ -59,45 +58,58 @@ pub fn blank() -> Enclosure {
 }
 
 impl<'e> BodyStates<'e> {
-    /// What both targets are made of over the times from `a` to `b`, in the unit of the ephemeris's times, where the columns
-    /// in use are made at once for the wanted coordinates, with each basis made once. What is not wanted is read when it is
-    /// asked for.
+    /// Returns a snapshot over the times from `a` to `b`, in the unit of the ephemeris's times. The columns of the
+    /// wanted coordinates are evaluated at once, with shared bases; any other column when it is asked for.
     pub fn at(&self, a: i64, b: i64, wanted: &Leaves) -> Snapshot<'_, 'e>
         requires { Fits self.now a b }
         ensures { result ≡ record { view = self.now; first = a; last = b } }
     {
         let times = TimeSpan::new(a, b);
-        let mut positions = [ColumnEnclosures::none(); KEPT_COLUMNS];
-        let mut velocities = [ColumnEnclosures::none(); KEPT_COLUMNS];
-        let axes = self.own_axes(wanted.first_position.union(wanted.second_position));
-        self.write_wanted(Quantity::Position, &times, axes, &mut positions);
-        let axes = self.own_axes(wanted.first_velocity.union(wanted.second_velocity));
-        self.write_wanted(Quantity::Velocity, &times, axes, &mut velocities);
+        let position_axes = self.own_axes(wanted.first_position.union(wanted.second_position));
+        let velocity_axes = self.own_axes(wanted.first_velocity.union(wanted.second_velocity));
+        let mut positions = [ColumnEntry::none(); KEPT_COLUMNS];
+        let mut velocities = [ColumnEntry::none(); KEPT_COLUMNS];
+        let question = ColumnQuestion {
+            is_centred: true,
+            quantity: Quantity::Position,
+            axes: position_axes,
+            times: &times,
+        };
+        self.write_entries(&question, &mut positions);
+        let question = ColumnQuestion {
+            is_centred: true,
+            quantity: Quantity::Velocity,
+            axes: velocity_axes,
+            times: &times,
+        };
+        self.write_entries(&question, &mut velocities);
         Snapshot {
             states: self,
             times,
+            position_axes,
             positions,
+            velocity_axes,
             velocities,
         }
     }
 }
 
 impl<'s, 'e> Snapshot<'s, 'e> {
-    /// What is seen, without the ephemeris.
+    /// Returns the targets, the observer and the frame of the states of which the snapshot was taken.
     pub fn sight(&self) -> Sight
         ensures { result ≡ sight_of self.now.view }
     {
         self.states.sight()
     }
 
-    // What was made of a quantity of the columns in use.
+    // Returns the files' axes along which a quantity of the columns in use was evaluated, and the entries written.
     #[inline(always)]
-    fn known(&self, quantity: Quantity) -> &[ColumnEnclosures]
-        ensures { AreKnown self.now.view quantity self.now.first self.now.last result.now }
+    fn written_entries(&self, quantity: Quantity) -> (Axes, &[ColumnEntry; KEPT_COLUMNS])
+        ensures { AreMade self.now.view quantity result.0 self.now.first self.now.last result.1.now }
     {
         match quantity {
-            Quantity::Position => &self.positions,
-            Quantity::Velocity => &self.velocities,
+            Quantity::Position => (self.position_axes, &self.positions),
+            Quantity::Velocity => (self.velocity_axes, &self.velocities),
         }
     }
 }
@@ -112,8 +124,15 @@ impl<'s, 'e> Arithmetic for Snapshot<'s, 'e> {
     ghost is_value = { λ m t made. made ≡ meant_in m t };
 
     fn column(&self, quantity: Quantity, number: usize, axis: usize) -> Enclosure {
+        let (axes, columns) = self.written_entries(quantity);
+        let question = ColumnQuestion {
+            is_centred: true,
+            quantity,
+            axes,
+            times: &self.times,
+        };
         self.states
-            .column_over(quantity, number, axis, &self.times, self.known(quantity))
+            .column_enclosure(&question, columns, number, axis)
     }
 
     fn zero(&self) -> Enclosure {

@@ -5,35 +5,36 @@ ghost use Rattle.spec_bodies.specs.Sources.{needed_columns, used, is_among, is_i
 use spec_bodies::{MOON_COLUMN, Source};
 use spec_ephemeris::BODY_COLUMNS;
 
-/// Of how many columns what is made is kept: two bodies and the Earth are made of no more.
+/// The number of columns whose enclosures are kept: two bodies seen from the Earth are made of no more.
 pub(crate) const KEPT_COLUMNS: usize = 4;
 
-// Whether a source needs the column.
-fn needs(source: Source, number: usize) -> bool
+// Tells whether a body is made of the column with a number, which is counted from 1, among others or alone.
+fn needs_column(source: Source, number: usize) -> bool
     ensures { result ≡ is_among (needed_columns source) number }
 {
     source.needed_columns().contains(&number)
 }
 
-// Whether a target seen from an observer is made of the column.
-fn uses(target: Source, observer: Source, number: usize) -> bool
+// Tells whether a column is needed for a target seen from an observer, because either is made of it. The Earth and the
+// Moon seen from each other need the Moon's column alone, which holds the Moon seen from the Earth.
+fn uses_column(target: Source, observer: Source, number: usize) -> bool
     ensures { result ≡ is_among (used target observer) number }
 {
     match (target, observer) {
         (Source::MoonOfPair, Source::EarthOfPair) | (Source::EarthOfPair, Source::MoonOfPair) =>
             MOON_COLUMN == number,
-        _ => needs(target, number) || needs(observer, number),
+        _ => needs_column(target, number) || needs_column(observer, number),
     }
 }
 
-// Whether one of two targets seen from an observer is made of the column.
+// Tells whether the column with a number, counted from 1, is needed for either of two targets seen from an observer.
 fn is_in_use(first: Source, second: Source, observer: Source, number: usize) -> bool
     ensures { result ≡ is_in_use first second observer number }
 {
-    uses(first, observer, number) || uses(second, observer, number)
+    uses_column(first, observer, number) || uses_column(second, observer, number)
 }
 
-/// The columns in use for two targets and an observer.
+/// The columns in use for two targets and an observer: the first `count` of `numbers`. Those behind mean nothing.
 #[derive(Clone, Copy)]
 pub(crate) struct InUse {
     pub numbers: [usize; BODY_COLUMNS],
@@ -41,7 +42,7 @@ pub(crate) struct InUse {
 }
 
 impl InUse {
-    /// The columns in use, in order and each once.
+    /// Returns the numbers of the columns needed for two targets seen from an observer, each once, in rising order.
     pub fn of(first: Source, second: Source, observer: Source) -> InUse
         ensures few { result.count ≤ 11 }
         ensures numbers { take result.count result.numbers ≡ columns_in_use first second observer }

@@ -3,24 +3,29 @@ ghost use Rattle.std.specs.Prelude.{◌≡◌, ◌≢◌, ◌<◌, ◌≤◌, Al
 ghost use Rattle.spec_ephemeris.specs.declared.body.Body.TheVariants.{Ssb};
 ghost use Rattle.spec_ephemeris.specs.Header.{has_column};
 ghost use Rattle.spec_ephemeris.specs.Ephemeris.{IsEphemeris};
-ghost use Rattle.spec_bodies.specs.Views.{IsView, HasBody, HasColumns, view_of, columns_of};
+ghost use Rattle.spec_bodies.specs.Meanings.{factor_interval};
+ghost use Rattle.spec_bodies.specs.Views.{IsView, HasBody, HasColumns, view_of, columns_of, factor_of};
 ghost use Rattle.spec_steps.specs.ColumnTerms.{sight_of};
 ghost use Rattle.body_states.specs.Dividers.{granule_seconds, AreDividers};
+ghost use Rattle.body_states.specs.Ranges.{own_axes};
 
 use crate::factors::Factors;
 use crate::sources::{InUse, KEPT_COLUMNS};
+use column_steps::CoordinateSteps;
 use eph_model::{Body, Ephemeris};
-use ival_core::Divider;
-use spec_bodies::{Frame, Source};
+use event_expr::Axes;
+use ival_core::{Divider, Ival};
+use spec_bodies::{Factor, Frame, Source};
 use spec_steps::Sight;
 use std::marker::Model;
 
-/// Two targets seen from an observer in a frame, over an ephemeris. Where there is one body, both targets are that body.
-/// Times are in the unit of the ephemeris's times, seconds of TDB since J2000 or ticks, positions are in km and velocities
-/// in km per unit of time; they are geometric, with no account of the time that light takes.
+/// Two targets, which may be one body, seen from an observer in a frame. Times are in the ephemeris's unit, seconds of
+/// TDB since J2000 or ticks, positions in km, velocities in km per unit of time; all are geometric, without light time.
 #[derive(Drop)]
 pub struct BodyStates<'e> {
     pub(crate) ephemeris: &'e Ephemeris,
+    /// The steps of the targets' coordinates.
+    coordinates: CoordinateSteps,
     pub(crate) first: Source,
     pub(crate) second: Source,
     pub(crate) observer: Source,
@@ -29,10 +34,8 @@ pub struct BodyStates<'e> {
     in_use: InUse,
     /// By the granules of the columns in use, in their order, as far as there are so many.
     dividers: [Divider; KEPT_COLUMNS],
-    /// How many entries their rows want, where columns share them, and 0 where a column shares none.
+    /// How many entries their rows need if columns share them, and 0 if a column shares none.
     entries: [usize; KEPT_COLUMNS],
-    /// How many of the first columns in use there are to look at for those that share rows: none, where none does.
-    sharing: usize,
 }
 
 impl<'e> Model for BodyStates<'e> {
@@ -62,13 +65,18 @@ impl<'e> Model for BodyStates<'e> {
         × (take s.in_use.count s.in_use.numbers ≡ columns_in_use s.first s.second s.observer)
         × (s.in_use.count ≤ 11)
         × AreFactors s.ephemeris.now.header.emrat s.factors
-        × AreDividers s.ephemeris.now (take s.in_use.count s.in_use.numbers) s.dividers };
+        × AreDividers s.ephemeris.now (take s.in_use.count s.in_use.numbers) s.dividers
+        × (s.coordinates ≡ record {
+          first = s.first;
+          second = s.second;
+          observer = s.observer;
+          frame = s.frame;
+        }) };
 }
 
 impl<'e> BodyStates<'e> {
-    /// The targets seen from the observer in the frame. The Earth and the Moon need the columns of the Earth-Moon
-    /// barycentre and of the Moon, also where one is seen from the other; every other body needs its own, and the
-    /// barycentre of the solar system none.
+    /// Returns the states of two targets seen from an observer in a frame. The ephemeris must have each body's column:
+    /// for the Earth or the Moon, even seen from the other, those of their barycentre and the Moon; for the SSB none.
     pub fn new(
         ephemeris: &'e Ephemeris,
         targets: [Body; 2],
@@ -86,22 +94,27 @@ impl<'e> BodyStates<'e> {
         let observer = Source::of(observer);
         let factors = Factors::new(ephemeris.header().emrat);
         let in_use = InUse::of(first, second, observer);
-        let entries = entries_of(ephemeris, &in_use.numbers[..in_use.count]);
+        let coordinates = CoordinateSteps::new(Sight {
+            first,
+            second,
+            observer,
+            frame,
+        });
         BodyStates {
             dividers: dividers_of(ephemeris, &in_use.numbers[..in_use.count]),
-            sharing: sharing_of(&entries),
-            entries,
+            entries: entries_of(ephemeris, &in_use.numbers[..in_use.count]),
             ephemeris,
             first,
             second,
             observer,
             frame,
             factors,
+            coordinates,
             in_use,
         }
     }
 
-    /// What is seen, without the ephemeris.
+    /// Returns the two targets, the observer and the frame, without the ephemeris.
     pub fn sight(&self) -> Sight
         ensures { result ≡ sight_of self.now }
     {
@@ -113,8 +126,15 @@ impl<'e> BodyStates<'e> {
         }
     }
 
-    /// The columns in use, counted from 1, in order and each once. One of the Earth and the Moon seen from the other is
-    /// read from the Moon's column alone.
+    /// Returns the lists of steps by which each coordinate of the targets is calculated from the columns in use.
+    pub(crate) fn coordinates(&self) -> &CoordinateSteps
+        ensures { result.now ≡ sight_of self.now }
+    {
+        &self.coordinates
+    }
+
+    /// Returns the numbers of the columns in use, counted from 1, in rising order and each once. If both targets are
+    /// the Earth or the Moon seen from the other, the Moon's column alone is in use.
     pub fn columns(&self) -> &[usize]
         ensures in_use { result.now ≡ columns_of self.now }
         ensures view { IsView self.now }
@@ -122,7 +142,7 @@ impl<'e> BodyStates<'e> {
         &self.in_use.numbers[..self.in_use.count]
     }
 
-    /// The dividers by the granules of the first four columns in use, in their order.
+    /// Returns dividers by the seconds of the granules of the first four columns in use; any left over mean nothing.
     pub(crate) fn dividers(&self) -> &[Divider]
         ensures dividers { AreDividers self.now.ephemeris (columns_of self.now) result.now }
         ensures count { length result.now ≡ 4 }
@@ -130,22 +150,37 @@ impl<'e> BodyStates<'e> {
         &self.dividers
     }
 
-    /// Of the first four columns in use, in their order, how many entries the rows want that a column shares with others,
-    /// and 0 where it shares none. No answer rests on it.
+    /// Returns, for each of the first four columns in use, how many entries the rows need that it shares with others,
+    /// or 0 if it shares none. They decide only how fast the columns are evaluated, never with what result.
     pub(crate) fn entries(&self) -> &[usize]
         ensures { length result.now ≡ 4 }
     {
         &self.entries
     }
 
-    /// How many of the first columns in use there are to look at for those that share rows: none, where none does. No answer
-    /// rests on it.
-    pub(crate) fn sharing(&self) -> usize {
-        self.sharing
+    /// Returns the interval of one of the constants by which coordinates are scaled, in units of 2^-60.
+    pub fn factor(&self, factor: Factor) -> Ival
+        ensures { result ≡ factor_interval (factor_of self.now factor) }
+    {
+        self.factors.interval(factor)
+    }
+
+    /// Returns the axes of the files that some of the frame's are made of: those of the ecliptic's y or z are y and z.
+    pub fn own_axes(&self, axes: Axes) -> Axes
+        ensures { result ≡ own_axes self.now.frame axes }
+    {
+        match self.frame {
+            Frame::Eq => axes,
+            Frame::Ecl => Axes {
+                x: axes.x,
+                y: axes.y || axes.z,
+                z: axes.y || axes.z,
+            },
+        }
     }
 }
 
-/// The divider by the granules of a column.
+/// Returns the divider by the seconds of a column's granules: those of the first, as all are equally long.
 pub(crate) fn divider_of(ephemeris: &Ephemeris, number: usize) -> Divider
     requires checked { IsEphemeris ephemeris.now }
     requires block { 0 < ephemeris.now.blocks }
@@ -155,7 +190,7 @@ pub(crate) fn divider_of(ephemeris: &Ephemeris, number: usize) -> Divider
     Divider::of(ephemeris.granule(number, ephemeris.start()).seconds)
 }
 
-// Those of the first four of some columns.
+// Returns the dividers by the seconds of the granules of a list's first four columns. Those left over divide by 1.
 fn dividers_of(ephemeris: &Ephemeris, numbers: &[usize]) -> [Divider; KEPT_COLUMNS]
     requires checked { IsEphemeris ephemeris.now }
     requires block { 0 < ephemeris.now.blocks }
@@ -170,7 +205,7 @@ fn dividers_of(ephemeris: &Ephemeris, numbers: &[usize]) -> [Divider; KEPT_COLUM
     ]
 }
 
-// That of the column at a place, and by 1 where there is none.
+// Returns the divider by the seconds of the granules of the column at a place, or by 1 if the list has no such place.
 fn divider_at(ephemeris: &Ephemeris, numbers: &[usize], place: usize) -> Divider
     requires checked { IsEphemeris ephemeris.now }
     requires block { 0 < ephemeris.now.blocks }
@@ -185,7 +220,7 @@ fn divider_at(ephemeris: &Ephemeris, numbers: &[usize], place: usize) -> Divider
     }
 }
 
-// How many entries the rows of the first four of some columns want, where columns share them.
+// Returns how many entries the shared rows of each of a list's first four columns need, or 0 if it shares none.
 fn entries_of(ephemeris: &Ephemeris, numbers: &[usize]) -> [usize; KEPT_COLUMNS]
     requires checked { IsEphemeris ephemeris.now }
     requires block { 0 < ephemeris.now.blocks }
@@ -198,8 +233,8 @@ fn entries_of(ephemeris: &Ephemeris, numbers: &[usize]) -> [usize; KEPT_COLUMNS]
     entries
 }
 
-// As many as the most coefficients of the columns with granules as long as those of the column at a place, and 0 where
-// those of no other are.
+// Returns the greatest number of coefficients of the columns whose granules are as long as those of the column at a
+// place of a list. Of the others the first four are looked at. It is 0 if none has such granules, or past the list.
 fn entries_at(ephemeris: &Ephemeris, numbers: &[usize], place: usize) -> usize
     requires checked { IsEphemeris ephemeris.now }
     requires block { 0 < ephemeris.now.blocks }
@@ -216,14 +251,4 @@ fn entries_at(ephemeris: &Ephemeris, numbers: &[usize], place: usize) -> usize
         }
     }
     entries
-}
-
-// How many of these there are to look at for one that is not 0.
-fn sharing_of(entries: &[usize; KEPT_COLUMNS]) -> usize {
-    for place in 0..entries.len() {
-        if entries[place] > 0 {
-            return entries.len();
-        }
-    }
-    0
 }

@@ -21,8 +21,8 @@ const VELOCITY_EXPONENT: i32 = DISTANCE_EXPONENT - U_UNIT;
 const VELOCITY_STEP_EXPONENT: i32 = DISTANCE_EXPONENT - R_UNIT;
 
 /// Returns the interval of the changes of a coordinate from each time to the next, in km, over the arguments `x`. It
-/// is the sum of the products of its terms with the row of Q, the divided differences of T. The sum is taken times
-/// the `2 / seconds` that an argument gains in a second. The divider is that of the granule's seconds.
+/// is the sum of the products of its coefficients with the row of Q, the divided differences of T, times the `2 /
+/// seconds` that an argument gains in a second. The divider is that of the granule's seconds.
 #[inline(always)]
 pub fn position_step_over_row(
     terms: &AxisCoefficients,
@@ -38,8 +38,9 @@ pub fn position_step_over_row(
     Ival::scale_by(sum.lo, sum.hi, POSITION_STEP_EXPONENT, divider)
 }
 
-/// Returns the interval of the velocity along one axis, in km per second: the derivative of JPL's sum. By `T_k' = k
-/// U_(k-1)` it is the sum of k C_k U_(k-1) times `2 / seconds`. The row is that of slopes, of `fill_slopes`.
+/// Returns the interval of the velocity along one axis, in km per second, over the arguments `x`: the derivative of
+/// JPL's sum. By `T_k' = k U_(k-1)` it is the sum of k C_k U_(k-1) times `2 / seconds`. The row is that of slopes, of
+/// `fill_slopes`.
 #[inline(always)]
 pub fn velocity_over_row(
     terms: &AxisCoefficients,
@@ -55,9 +56,9 @@ pub fn velocity_over_row(
     Ival::scale_by(sum.lo, sum.hi, VELOCITY_EXPONENT, divider)
 }
 
-/// Returns the interval of the changes of the velocity along one axis from each time to the next, in km per second.
-/// It is the sum of k C_k R_(k-1), with the divided differences R of U, times `2 / seconds` twice and normalized
-/// once. The row is that of the changes of slopes, of `fill_slopes_and_changes`.
+/// Returns the interval of the changes of the velocity along one axis from each time to the next, in km per second,
+/// over the arguments `x`. It is the sum of k C_k R_(k-1), with the divided differences R of U, times `2 / seconds`
+/// twice and normalized once. The row is that of the changes of slopes, of `fill_slopes_and_changes`.
 #[inline(always)]
 pub fn velocity_step_over_row(
     terms: &AxisCoefficients,
@@ -69,13 +70,14 @@ pub fn velocity_step_over_row(
     requires changes { AreSlopes (length terms.now) changes.now (r_row x) }
     ensures { result ≡ velocity_step_over terms.now x divider.now }
 {
-    let sum = once_scaled(slope_sum(terms, changes), divider);
+    let sum = scale_ends_once(slope_sum(terms, changes), divider);
     Ival::scale_by(sum.lo, sum.hi, VELOCITY_STEP_EXPONENT, divider)
 }
 
-// Returns both ends times `2 / seconds`, rounded outward and not normalized.
+// Returns both ends of a sum times `2 / seconds`, the low one rounded down and the high one up. They are not
+// normalized, since a change of velocity is scaled a second time.
 #[inline(always)]
-fn once_scaled(sum: WideEnds, divider: &Divider) -> WideEnds
+fn scale_ends_once(sum: WideEnds, divider: &Divider) -> WideEnds
     requires lo_size { unsigned_abs sum.lo < 2 ^ 125 }
     requires hi_size { unsigned_abs sum.hi < 2 ^ 125 }
     ensures lo { result.lo ≡ floor_div (pos 2 *ℤ sum.lo) divider.now }
@@ -85,14 +87,14 @@ fn once_scaled(sum: WideEnds, divider: &Divider) -> WideEnds
     ensures positive { 1 ≤ divider.now }
 {
     WideEnds {
-        lo: share_down(sum.lo, divider),
-        hi: share_up(sum.hi, divider),
+        lo: scale_low_end(sum.lo, divider),
+        hi: scale_high_end(sum.hi, divider),
     }
 }
 
-// Returns `floor(2 z / seconds)`.
+// Returns the low end of a sum times `2 / seconds`, rounded down.
 #[inline(always)]
-fn share_down(z: i128, divider: &Divider) -> i128
+fn scale_low_end(z: i128, divider: &Divider) -> i128
     requires size { unsigned_abs z < 2 ^ 125 }
     ensures equals { result ≡ floor_div (pos 2 *ℤ z) divider.now }
     ensures bound { unsigned_abs result < 2 ^ 126 }
@@ -101,9 +103,9 @@ fn share_down(z: i128, divider: &Divider) -> i128
     divider.down(2 * z)
 }
 
-// Returns `ceil(2 z / seconds)`.
+// Returns the high end of a sum times `2 / seconds`, rounded up.
 #[inline(always)]
-fn share_up(z: i128, divider: &Divider) -> i128
+fn scale_high_end(z: i128, divider: &Divider) -> i128
     requires size { unsigned_abs z < 2 ^ 125 }
     ensures equals { result ≡ ceil_div (pos 2 *ℤ z) divider.now }
     ensures bound { unsigned_abs result < 2 ^ 126 }

@@ -8,8 +8,9 @@ ghost use Rattle.cheby_difference.specs.Slopes.{AreSlopes};
 use cheby_laws::{Row, fill_u, fill_ur};
 use spec_chebyshev::Ival62;
 
-/// Writes the row of slopes as far as sums over `n` terms read it: `n - 1` entries. By `T_k' = k U_(k-1)` entry `k`
-/// is that of degree `k + 1`, `(k + 1) U_k`, in units of 2^-50.
+/// Writes the row of slopes over the arguments `x`, as far as sums over `n` coefficients read it: `n - 1` entries. By
+/// `T_k' = k U_(k-1)` entry `k` is that of degree `k + 1`, `(k + 1) U_k`, in units of 2^-50. For an `n` of 0 nothing
+/// is written.
 #[inline(always)]
 pub fn fill_slopes(x: Ival62, n: usize, slopes: &mut Row)
     requires n_in { n ≤ 32 }
@@ -21,8 +22,8 @@ pub fn fill_slopes(x: Ival62, n: usize, slopes: &mut Row)
     multiply_by_degrees(entries, slopes);
 }
 
-/// Writes the row of slopes, as `fill_slopes` does, and the row of their divided differences, whose entry `k` is `(k
-/// + 1) R_k`, in units of 2^-44.
+/// Writes the row of slopes, as `fill_slopes` does, and the row of their divided differences, with `n - 1` entries
+/// too. Entry `k` of that one is `(k + 1) R_k`, in units of 2^-44.
 #[inline(always)]
 pub fn fill_slopes_and_changes(x: Ival62, n: usize, slopes: &mut Row, changes: &mut Row)
     requires n_in { n ≤ 32 }
@@ -37,7 +38,7 @@ pub fn fill_slopes_and_changes(x: Ival62, n: usize, slopes: &mut Row, changes: &
 }
 
 // Multiplies the first entries of a row, which starts with degree 1, by their degrees: entry 0 by 1, entry 1 by 2,
-// and so on.
+// and so on. Other entries stay as the caller left them.
 #[inline(always)]
 fn multiply_by_degrees(entries: usize, row: &mut Row)
     requires few { entries ≤ 32 }
@@ -45,13 +46,13 @@ fn multiply_by_degrees(entries: usize, row: &mut Row)
     ensures { (k : ℕ) → k < entries → entry row.new k ≡ times (suc k) (entry row.old k) }
 {
     for k in 0..entries {
-        row[k] = multiple(k + 1, row[k]);
+        row[k] = entry_times_degree(k + 1, row[k]);
     }
 }
 
-// Returns an entry times a degree.
+// Returns an entry of a row times its degree, end by end. Both ends stay within 64 bits, as the caller knows.
 #[inline(always)]
-fn multiple(degree: usize, e: Ival62) -> Ival62
+fn entry_times_degree(degree: usize, e: Ival62) -> Ival62
     requires few { degree ≤ 32 }
     requires lo_fits { degree * unsigned_abs e.lo < 2 ^ 63 }
     requires hi_fits { degree * unsigned_abs e.hi < 2 ^ 63 }

@@ -10,9 +10,10 @@ use eph_model::Granule;
 use ival_core::Divider;
 use spec_chebyshev::Ival62;
 
-// Returns the terms of an axis, the arguments of the times from `a` to `b`, and the divider by the granule's seconds.
+// Returns what each sum over a span of a granule needs: the coefficients of an axis, the interval of the arguments of
+// the times from `a` to `b`, and the divider by the granule's seconds.
 #[inline(always)]
-pub(crate) fn span_parts<'g>(
+pub(crate) fn span_inputs<'g>(
     g: &Granule<'g>,
     axis: usize,
     a: i64,

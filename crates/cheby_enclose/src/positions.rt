@@ -19,7 +19,7 @@ use spec_chebyshev::Ival62;
 /// The exponent of 2 of a sum of coefficients, in the unit of distances, times entries of the row of T.
 const POSITION_EXPONENT: i32 = DISTANCE_EXPONENT - T_UNIT;
 
-/// Returns a row of zeros, to be filled.
+/// Returns a row of 32 entries that are all 0, into which a basis is then written.
 #[inline(always)]
 pub fn empty_row() -> Row
     ensures { result ≡ no_row }
@@ -27,8 +27,8 @@ pub fn empty_row() -> Row
     [Ival62 { lo: 0, hi: 0 }; 32]
 }
 
-/// Returns the interval of a coordinate, in km, over the arguments `x`. It is JPL's sum of `c_k T_k(x)`: the sum of
-/// the products of the terms with the row of T in 128 bits, normalized once to ends of at most 2^62 in magnitude.
+/// Returns the interval of a coordinate, in km, over the arguments `x`: JPL's sum of `c_k T_k(x)`. The products of the
+/// terms with the row of T are added in 128 bits. The sum is normalized once, to ends of at most 2^62 in magnitude.
 #[inline(always)]
 pub fn position_over_row(terms: &AxisCoefficients, x: Ival62, t: &Row) -> Ival
     requires arguments { IsArguments x }

@@ -21,8 +21,8 @@ pub struct WideEnds {
     pub hi: i128,
 }
 
-/// Returns the sum of the products of the terms with the entries of a row, C_0 X_0 + C_1 X_1 + .., in units of 2^-24
-/// times the row's.
+/// Returns the sum of the products of an axis's coefficients with the entries of a row: C_0 X_0 + C_1 X_1 + .. It is
+/// in units of 2^-24 km times the row's.
 #[inline(always)]
 pub fn row_sum(terms: &AxisCoefficients, row: &Row) -> WideEnds
     requires small { length terms.now ≤ 32 → IsSmallRow row.now (length terms.now) }
@@ -35,8 +35,8 @@ pub fn row_sum(terms: &AxisCoefficients, row: &Row) -> WideEnds
     sum_of_products(terms.pairs, row)
 }
 
-/// Returns the sum of the products of all terms but the first with the entries of a row, C_1 X_0 + C_2 X_1 + .., in
-/// units of 2^-24 times the row's.
+/// Returns the sum of the products of all of an axis's coefficients but the first with the entries of a row, from
+/// entry 0 on: C_1 X_0 + C_2 X_1 + .. It is in units of 2^-24 km times the row's.
 #[inline(always)]
 pub fn slope_sum(terms: &AxisCoefficients, row: &Row) -> WideEnds
     requires small { length terms.now ≤ 32
@@ -47,18 +47,20 @@ pub fn slope_sum(terms: &AxisCoefficients, row: &Row) -> WideEnds
     ensures lo_size { unsigned_abs result.lo < 2 ^ 125 }
     ensures hi_size { unsigned_abs result.hi < 2 ^ 125 }
 {
-    sum_of_products(after_first(terms.pairs), row)
+    sum_of_products(pairs_after_first(terms.pairs), row)
 }
 
-// Returns all pairs but the first. The empty slice stays empty.
+// Returns all coefficients but the first, which belongs to degree 0 and has no slope. If there is none, there is none
+// after it.
 #[inline(always)]
-fn after_first(pairs: &[Rounded]) -> &[Rounded]
+fn pairs_after_first(pairs: &[Rounded]) -> &[Rounded]
     ensures { result.now ≡ drop 1 pairs.now }
 {
     &pairs[pairs.len().min(1)..]
 }
 
-// Returns the sum of the products of pairs, as intervals, with the entries of a row, by its two ends.
+// Returns the sum of the products of coefficients with the entries of a row, from the first of each on. Its ends are
+// in 128 bits, which hold them since the row is summable.
 #[inline(always)]
 fn sum_of_products(pairs: &[Rounded], row: &Row) -> WideEnds
     requires pairs { ArePairs pairs.now }
@@ -71,16 +73,16 @@ fn sum_of_products(pairs: &[Rounded], row: &Row) -> WideEnds
 {
     let mut sum = WideEnds { lo: 0, hi: 0 };
     for k in 0..pairs.len() {
-        sum = added(sum, product(pairs[k], row[k]));
+        sum = sum_of_ends(sum, pair_times_entry(pairs[k], row[k]));
     }
     sum
 }
 
-// Returns the least and the greatest product of a number of a pair with a number of an entry. A pair has one sign,
-// since its ends are the floor and the ceiling of one number, so two multiplications do. The last case comes with no
-// pair.
+// Returns the least and the greatest product of a number between the ends of a pair with a number of an entry. A pair
+// is the floor and the ceiling of one number, so it lies on one side of 0, and two multiplications are enough. No
+// pair reaches the last branch.
 #[inline(always)]
-fn product(c: Rounded, e: Ival62) -> WideEnds
+fn pair_times_entry(c: Rounded, e: Ival62) -> WideEnds
     requires pair { IsPair c }
     requires lo_fits { unsigned_abs e.lo < 2 ^ 63 }
     requires hi_fits { unsigned_abs e.hi < 2 ^ 63 }
@@ -89,32 +91,32 @@ fn product(c: Rounded, e: Ival62) -> WideEnds
     ensures hi { result.hi ≡ greatest4 c.lo c.hi e.lo e.hi }
 {
     if c.lo >= 0 {
-        lesser_and_greater(c, e.lo, e.hi)
+        lesser_and_greater_product(c, e.lo, e.hi)
     } else if c.hi <= 0 {
-        lesser_and_greater(c, e.hi, e.lo)
+        lesser_and_greater_product(c, e.hi, e.lo)
     } else {
         WideEnds { lo: 0, hi: 0 }
     }
 }
 
-// Returns the lesser product of a pair's ends with `x`, and the greater product of its ends with `y`.
+// Returns the lesser of the products of a pair's ends with `x`, and the greater of the products of its ends with `y`.
 #[inline(always)]
-fn lesser_and_greater(c: Rounded, x: i64, y: i64) -> WideEnds
+fn lesser_and_greater_product(c: Rounded, x: i64, y: i64) -> WideEnds
     requires pair { IsPair c }
     ensures lo { result.lo ≡ int_min (c.lo *ℤ x) (c.hi *ℤ x) }
     ensures hi { result.hi ≡ int_max (c.lo *ℤ y) (c.hi *ℤ y) }
 {
-    let lesser = ends_by_number(c, x).0;
-    let greater = ends_by_number(c, y).1;
+    let lesser = ends_by_product(c, x).0;
+    let greater = ends_by_product(c, y).1;
     WideEnds {
-        lo: times(lesser, x),
-        hi: times(greater, y),
+        lo: wide_product(lesser, x),
+        hi: wide_product(greater, y),
     }
 }
 
-// Returns a pair's ends in the order of their products with a number: the one with the lesser product first.
+// Returns a pair's ends in the order of their products with `z`, the one with the lesser product first.
 #[inline(always)]
-fn ends_by_number(c: Rounded, z: i64) -> (i64, i64)
+fn ends_by_product(c: Rounded, z: i64) -> (i64, i64)
     requires pair { IsPair c }
     ensures lesser { result.0 *ℤ z ≡ int_min (c.lo *ℤ z) (c.hi *ℤ z) }
     ensures greater { result.1 *ℤ z ≡ int_max (c.lo *ℤ z) (c.hi *ℤ z) }
@@ -124,18 +126,19 @@ fn ends_by_number(c: Rounded, z: i64) -> (i64, i64)
     if z < 0 { (c.hi, c.lo) } else { (c.lo, c.hi) }
 }
 
-// Returns the product of an end of a pair and an end of an entry, by one multiplication of 64-bit numbers.
+// Returns the product of an end of a pair and an end of an entry, in 128 bits, by one multiplication of 64-bit
+// numbers.
 #[inline(always)]
-fn times(c: i64, e: i64) -> i128
+fn wide_product(c: i64, e: i64) -> i128
     requires { unsigned_abs c ≤ 2 ^ 60 }
     ensures { result ≡ c *ℤ e }
 {
     c as i128 * e as i128
 }
 
-// Returns the sum of two intervals in 128 bits, end by end.
+// Returns the sum of two intervals in 128 bits: the sum of the low ends and the sum of the high ends.
 #[inline(always)]
-fn added(one: WideEnds, other: WideEnds) -> WideEnds
+fn sum_of_ends(one: WideEnds, other: WideEnds) -> WideEnds
     requires one_lo { unsigned_abs one.lo ≤ 2 ^ 125 }
     requires one_hi { unsigned_abs one.hi ≤ 2 ^ 125 }
     requires other_lo { unsigned_abs other.lo ≤ 2 ^ 125 }

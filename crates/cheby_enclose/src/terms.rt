@@ -28,7 +28,8 @@ impl<'g> Model for AxisCoefficients<'g> {
 }
 
 impl<'g> AxisCoefficients<'g> {
-    /// Returns the intervals of the coefficients of an axis, counted from 0.
+    /// Returns the coefficients of an axis of a granule as intervals, from that of T_0 on. Axes are counted from 0.
+    /// Nothing is copied.
     #[inline(always)]
     pub fn of(g: &Granule<'g>, axis: usize) -> AxisCoefficients<'g>
         requires granule { IsEvaluable g.now }
@@ -40,7 +41,8 @@ impl<'g> AxisCoefficients<'g> {
         AxisCoefficients::of_pairs(&g.rounded[from..from + g.n])
     }
 
-    // Returns the intervals of these rounded pairs.
+    // Makes the intervals of coefficients of their pairs, each a coefficient rounded down and up to units of 2^-24
+    // km.
     #[inline(always)]
     fn of_pairs(pairs: &'g [Rounded]) -> AxisCoefficients<'g>
         requires { ArePairs pairs.now }

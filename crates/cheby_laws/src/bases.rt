@@ -22,8 +22,9 @@ pub struct Basis {
     pub r: Row,
 }
 
-/// Writes the first `n` entries of `out.t`: `T_0` is 1, `T_1` is `x`, and `T_(k+1)` is `2 x T_k - T_(k-1)`, cut to 1 in
-/// magnitude.
+/// Writes the first `n` entries of `out.t`, the Chebyshev polynomials of the first kind over the arguments `x`, in
+/// units of 2^-60: `T_0` is 1, `T_1` is `x`, and `T_(k+1)` is `2 x T_k - T_(k-1)`, cut to 1 in magnitude. Other
+/// entries and rows stay.
 pub fn basis_t(x: Ival62, n: usize, out: &mut Basis)
     requires n_in { n ≤ 32 }
     requires x_in { IsArguments x }
@@ -38,8 +39,9 @@ pub fn basis_t(x: Ival62, n: usize, out: &mut Basis)
     fill_t(x, n, &mut out.t);
 }
 
-/// Writes the first `n` entries of `out.u`: `U_0` is 1, `U_1` is `2 x`, and `U_(k+1)` is `2 x U_k - U_(k-1)`, cut to
-/// `k + 2` in magnitude.
+/// Writes the first `n` entries of `out.u`, the Chebyshev polynomials of the second kind over the arguments `x`, in
+/// units of 2^-50: `U_0` is 1, `U_1` is `2 x`, and `U_(k+1)` is `2 x U_k - U_(k-1)`, cut to `k + 2` in magnitude.
+/// Other entries and rows stay.
 pub fn basis_u(x: Ival62, n: usize, out: &mut Basis)
     requires n_in { n ≤ 32 }
     requires x_in { IsArguments x }
@@ -54,8 +56,9 @@ pub fn basis_u(x: Ival62, n: usize, out: &mut Basis)
     fill_u(x, n, &mut out.u);
 }
 
-/// Writes the first `n` entries of `out.q`: `Q_0` is 0, `Q_1` is 1, and `Q_(k+1)` is `2 x Q_k + 2 T_k - Q_(k-1)`, cut to
-/// `(k + 1)^2` in magnitude. The `T_k` are those of `basis_t` for the same `x`, and are computed beside; `out.t` stays.
+/// Writes the first `n` entries of `out.q`, the divided differences of T over the arguments `x`, in units of 2^-46:
+/// `Q_0` is 0, `Q_1` is 1, and `Q_(k+1)` is `2 x Q_k + 2 T_k - Q_(k-1)`, cut to `(k + 1)^2` in magnitude. The `T_k`
+/// are computed beside, in a copy of `out.t`; other entries and rows stay.
 pub fn basis_q(x: Ival62, n: usize, out: &mut Basis)
     requires n_in { n ≤ 32 }
     requires x_in { IsArguments x }
@@ -72,9 +75,9 @@ pub fn basis_q(x: Ival62, n: usize, out: &mut Basis)
     fill_tq(x, n, &mut t, &mut out.q);
 }
 
-/// Writes the first `n` entries of `out.r`: `R_0` is 0, `R_1` is 2, and `R_(k+1)` is `2 x R_k + 2 U_k - R_(k-1)`, cut to
-/// `(k + 1) (k + 2) (k + 3) / 3` in magnitude. The `U_k` are those of `basis_u` for the same `x`, computed beside; `out.u`
-/// is not read.
+/// Writes the first `n` entries of `out.r`, the divided differences of U over the arguments `x`, in units of 2^-44:
+/// `R_0` is 0, `R_1` is 2, and `R_(k+1)` is `2 x R_k + 2 U_k - R_(k-1)`, cut to `(k + 1) (k + 2) (k + 3) / 3` in
+/// magnitude. The `U_k` are computed beside, in a copy of `out.u`; other entries and rows stay.
 pub fn basis_r(x: Ival62, n: usize, out: &mut Basis)
     requires n_in { n ≤ 32 }
     requires x_in { IsArguments x }

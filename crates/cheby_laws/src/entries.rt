@@ -6,7 +6,7 @@ ghost use Rattle.spec_chebyshev.specs.declared.ends.Ival62.{Ival62};
 ghost use Rattle.cheby_laws.specs.Recurrences.{IsRecurrence};
 ghost use Rattle.cheby_laws.specs.Rules.{IsRecurrence-t, IsRecurrence-u, IsRecurrence-q, IsRecurrence-r};
 
-use crate::steps::{coarser, next_entry};
+use crate::steps::{entry_in_coarser_unit, next_entry};
 use spec_chebyshev::Ival62;
 
 /// The number 1 in units of 2^-60, as the row of T counts.
@@ -30,7 +30,7 @@ pub(crate) trait Recurrence {
     /// The entries over an interval of arguments.
     ghost entries: { Ival62 → ℕ → Ival62 };
 
-    /// The entries of the row beside it, which is the row itself where nothing is added.
+    /// The entries of the row beside it, which is the row itself if nothing is added.
     ghost beside: { Ival62 → ℕ → Ival62 };
 
     /// The summand that an entry of the row beside gives.
@@ -39,21 +39,22 @@ pub(crate) trait Recurrence {
     /// The greatest magnitude of entry `k`.
     ghost limit: { ℕ → ℕ };
 
-    // Returns entry 0.
-    fn first() -> Ival62
+    // Returns entry 0 of the row, which is the same for all arguments.
+    fn first_entry() -> Ival62
         ensures { (x : Ival62) → result ≡ entries x 0 };
 
-    // Returns entry 1.
-    fn second(x: Ival62) -> Ival62
+    // Returns entry 1 of the row, over the arguments `x`.
+    fn second_entry(x: Ival62) -> Ival62
         requires { IsArguments x }
         ensures { result ≡ entries x 1 };
 
-    // Returns the summand that an entry of the row beside gives.
-    fn extra(e: Ival62) -> Ival62
+    // Returns what is added to the next entry of the row: a multiple of an entry `e` of the row beside it, in the
+    // unit of this row.
+    fn summand(e: Ival62) -> Ival62
         requires { EndsWithin (2 ^ 60) e }
         ensures { result ≡ extra e };
 
-    // Returns the greatest magnitude of entry `k`, in the unit of the row.
+    // Returns the greatest magnitude of entry `k`, in the unit of the row, to which the entry is cut.
     fn limit(k: usize) -> u64
         requires { k < 32 }
         ensures { result ≡ limit k };
@@ -76,25 +77,25 @@ impl Recurrence for FirstKind {
 
     ghost rule = { IsRecurrence-t };
 
-    // Returns 1, which is T_0.
+    // Returns T_0, which is 1, in units of 2^-60.
     #[inline(always)]
-    fn first() -> Ival62 {
-        exactly(T_ONE)
+    fn first_entry() -> Ival62 {
+        interval_of_number(T_ONE)
     }
 
-    // Returns x, which is T_1.
+    // Returns T_1, which is the argument itself, in units of 2^-60.
     #[inline(always)]
-    fn second(x: Ival62) -> Ival62 {
+    fn second_entry(x: Ival62) -> Ival62 {
         x
     }
 
-    // Returns 0: nothing is added.
+    // Returns 0: to the next entry of the row of T nothing is added.
     #[inline(always)]
-    fn extra(_e: Ival62) -> Ival62 {
+    fn summand(_e: Ival62) -> Ival62 {
         NOTHING
     }
 
-    // Returns 1, the greatest magnitude of every T_k.
+    // Returns 1 in units of 2^-60: for arguments from -1 to 1 no T_k is greater in magnitude.
     #[inline(always)]
     fn limit(_k: usize) -> u64 {
         T_ONE as u64
@@ -116,25 +117,25 @@ impl Recurrence for SecondKind {
 
     ghost rule = { IsRecurrence-u };
 
-    // Returns 1, which is U_0.
+    // Returns U_0, which is 1, in units of 2^-50.
     #[inline(always)]
-    fn first() -> Ival62 {
-        exactly(U_ONE)
+    fn first_entry() -> Ival62 {
+        interval_of_number(U_ONE)
     }
 
-    // Returns 2 x, which is U_1, in the coarser unit of its row.
+    // Returns U_1, which is 2 x, in units of 2^-50. These are 2^10 units of an argument, so 2 x takes a shift by 9.
     #[inline(always)]
-    fn second(x: Ival62) -> Ival62 {
-        coarser(x, 9)
+    fn second_entry(x: Ival62) -> Ival62 {
+        entry_in_coarser_unit(x, 9)
     }
 
-    // Returns 0: nothing is added.
+    // Returns 0: to the next entry of the row of U nothing is added.
     #[inline(always)]
-    fn extra(_e: Ival62) -> Ival62 {
+    fn summand(_e: Ival62) -> Ival62 {
         NOTHING
     }
 
-    // Returns k + 1, the greatest magnitude of U_k.
+    // Returns k + 1 in units of 2^-50: for arguments from -1 to 1 U_k is no greater in magnitude.
     #[inline(always)]
     fn limit(k: usize) -> u64 {
         (k as u64 + 1) * U_ONE as u64
@@ -156,25 +157,26 @@ impl Recurrence for FirstDifferences {
 
     ghost rule = { IsRecurrence-q };
 
-    // Returns 0, which is Q_0.
+    // Returns Q_0, the divided difference of T_0, which is 0.
     #[inline(always)]
-    fn first() -> Ival62 {
+    fn first_entry() -> Ival62 {
         NOTHING
     }
 
-    // Returns 1, which is Q_1.
+    // Returns Q_1, the divided difference of T_1, which is 1, in units of 2^-46.
     #[inline(always)]
-    fn second(_x: Ival62) -> Ival62 {
-        exactly(Q_ONE)
+    fn second_entry(_x: Ival62) -> Ival62 {
+        interval_of_number(Q_ONE)
     }
 
-    // Returns 2 T_(k-1), from T_(k-1), in the coarser unit of the row of Q.
+    // Returns 2 T_(k-1), which is added to Q_k, in units of 2^-46. T_(k-1) comes in units of 2^-60, so twice it takes a
+    // shift by 13.
     #[inline(always)]
-    fn extra(e: Ival62) -> Ival62 {
-        coarser(e, 13)
+    fn summand(e: Ival62) -> Ival62 {
+        entry_in_coarser_unit(e, 13)
     }
 
-    // Returns k^2, the greatest magnitude of Q_k.
+    // Returns k^2 in units of 2^-46: for arguments from -1 to 1 Q_k is no greater in magnitude.
     #[inline(always)]
     fn limit(k: usize) -> u64 {
         (k * k) as u64 * Q_ONE as u64
@@ -196,34 +198,36 @@ impl Recurrence for SecondDifferences {
 
     ghost rule = { IsRecurrence-r };
 
-    // Returns 0, which is R_0.
+    // Returns R_0, the divided difference of U_0, which is 0.
     #[inline(always)]
-    fn first() -> Ival62 {
+    fn first_entry() -> Ival62 {
         NOTHING
     }
 
-    // Returns 2, which is R_1.
+    // Returns R_1, the divided difference of U_1, which is 2, in units of 2^-44.
     #[inline(always)]
-    fn second(_x: Ival62) -> Ival62 {
-        exactly(2 * R_ONE)
+    fn second_entry(_x: Ival62) -> Ival62 {
+        interval_of_number(2 * R_ONE)
     }
 
-    // Returns 2 U_(k-1), from U_(k-1), in the coarser unit of the row of R.
+    // Returns 2 U_(k-1), which is added to R_k, in units of 2^-44. U_(k-1) comes in units of 2^-50, so twice it takes a
+    // shift by 5.
     #[inline(always)]
-    fn extra(e: Ival62) -> Ival62 {
-        coarser(e, 5)
+    fn summand(e: Ival62) -> Ival62 {
+        entry_in_coarser_unit(e, 5)
     }
 
-    // Returns k (k + 1) (k + 2) / 3, the greatest magnitude of R_k.
+    // Returns k (k + 1) (k + 2) / 3 in units of 2^-44: for arguments from -1 to 1 R_k is no greater in magnitude.
     #[inline(always)]
     fn limit(k: usize) -> u64 {
         (k * (k + 1) * (k + 2) / 3) as u64 * R_ONE as u64
     }
 }
 
-/// Returns entry `k` of a row, from the two entries before it and entry `k - 1` of the row beside it.
+/// Returns entry `k` of a row over the arguments `x`, from its entries `k - 1` (`last`) and `k - 2` (`before`), and
+/// from entry `k - 1` of the row beside it (`beside`).
 #[inline(always)]
-pub(crate) fn next_in_row<R: Recurrence>(
+pub(crate) fn next_entry_of_row<R: Recurrence>(
     x: Ival62,
     k: usize,
     beside: Ival62,
@@ -238,12 +242,12 @@ pub(crate) fn next_in_row<R: Recurrence>(
     requires before_is { before ≡ R.entries x (k - 2) }
     ensures { result ≡ R.entries x k }
 {
-    next_entry(x, last, R::extra(beside), before, R::limit(k))
+    next_entry(x, last, R::summand(beside), before, R::limit(k))
 }
 
-/// Returns the interval of one number.
+/// Returns the interval that holds one number alone.
 #[inline(always)]
-fn exactly(z: i64) -> Ival62
+fn interval_of_number(z: i64) -> Ival62
     ensures { result ≡ ends z z }
 {
     Ival62 { lo: z, hi: z }

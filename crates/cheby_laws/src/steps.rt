@@ -8,7 +8,7 @@ ghost use Rattle.spec_chebyshev.specs.Rows.{next, shifted, EndsWithin};
 use ival_core::product_ends;
 use spec_chebyshev::Ival62;
 
-/// Returns `2 x e + extra - before`, rounded outward and cut to `limit` in magnitude: the next entry of a row. `x` is
+/// Returns the next entry of a row: `2 x e + extra - before`, rounded outward and cut to `limit` in magnitude. `x` is
 /// in units of 2^-60, and all else in the unit of the row.
 #[inline(always)]
 pub(crate) fn next_entry(x: Ival62, e: Ival62, extra: Ival62, before: Ival62, limit: u64) -> Ival62
@@ -23,32 +23,39 @@ pub(crate) fn next_entry(x: Ival62, e: Ival62, extra: Ival62, before: Ival62, li
 {
     let (least, greatest) = product_ends(x.lo, x.hi, e.lo, e.hi);
     Ival62 {
-        lo: at_least(total(quotient_down(least), extra.lo, before.hi), limit),
-        hi: at_most(total(quotient_up(greatest), extra.hi, before.lo), limit),
+        lo: cut_low_end(
+            next_end(floor_in_row_unit(least), extra.lo, before.hi),
+            limit,
+        ),
+        hi: cut_high_end(
+            next_end(ceil_in_row_unit(greatest), extra.hi, before.lo),
+            limit,
+        ),
     }
 }
 
-/// Returns the greater of a number and `-limit`.
+/// Returns the low end of a row's next entry, cut to at least `-limit`, below which the exact entry never is.
 #[inline(always)]
-fn at_least(z: i64, limit: u64) -> i64
+fn cut_low_end(z: i64, limit: u64) -> i64
     requires { limit ≤ 2 ^ 60 }
     ensures { result ≡ int_max z (neg_ℤ (pos limit)) }
 {
     z.max(-(limit as i64))
 }
 
-/// Returns the lesser of a number and `limit`.
+/// Returns the high end of a row's next entry, cut to at most `limit`, above which the exact entry never is.
 #[inline(always)]
-fn at_most(z: i64, limit: u64) -> i64
+fn cut_high_end(z: i64, limit: u64) -> i64
     requires { limit ≤ 2 ^ 60 }
     ensures { result ≡ int_min z (pos limit) }
 {
     z.min(limit as i64)
 }
 
-/// Returns `quotient + extra - before`.
+/// Returns one end of a row's next entry before it is cut: `quotient + extra - before`, all in the unit of the row.
+/// The quotient is an end of `2 x e`.
 #[inline(always)]
-fn total(quotient: i64, extra: i64, before: i64) -> i64
+fn next_end(quotient: i64, extra: i64, before: i64) -> i64
     requires quotient_in { unsigned_abs quotient ≤ 2 ^ 61 }
     requires extra_in { unsigned_abs extra ≤ 2 ^ 60 }
     requires before_in { unsigned_abs before ≤ 2 ^ 60 }
@@ -57,9 +64,10 @@ fn total(quotient: i64, extra: i64, before: i64) -> i64
     quotient + extra - before
 }
 
-/// Returns `z / 2^59`, rounded down.
+/// Returns `z / 2^59`, rounded down: twice a product `z` of an argument in units of 2^-60 and an entry, in the unit
+/// of the entry's row.
 #[inline(always)]
-fn quotient_down(z: i128) -> i64
+fn floor_in_row_unit(z: i128) -> i64
     requires { unsigned_abs z ≤ 2 ^ 120 }
     ensures equals { result ≡ floor_div z (2 ^ 59) }
     ensures bound { unsigned_abs result ≤ 2 ^ 61 }
@@ -67,9 +75,10 @@ fn quotient_down(z: i128) -> i64
     (z >> 59) as i64
 }
 
-/// Returns `z / 2^59`, rounded up.
+/// Returns `z / 2^59`, rounded up: twice a product `z` of an argument in units of 2^-60 and an entry, in the unit of
+/// the entry's row.
 #[inline(always)]
-fn quotient_up(z: i128) -> i64
+fn ceil_in_row_unit(z: i128) -> i64
     requires { unsigned_abs z ≤ 2 ^ 120 }
     ensures equals { result ≡ ceil_div z (2 ^ 59) }
     ensures bound { unsigned_abs result ≤ 2 ^ 61 }
@@ -77,31 +86,31 @@ fn quotient_up(z: i128) -> i64
     (-(-z >> 59)) as i64
 }
 
-/// Returns an entry in a unit that is `2^k` times as coarse, rounded outward.
+/// Returns an entry in a unit that is `2^k` times as coarse, its ends rounded outward.
 #[inline(always)]
-pub(crate) fn coarser(e: Ival62, k: u32) -> Ival62
+pub(crate) fn entry_in_coarser_unit(e: Ival62, k: u32) -> Ival62
     requires e_in { EndsWithin (2 ^ 60) e }
     requires few { k ≤ 13 }
     ensures { result ≡ shifted k e }
 {
     Ival62 {
-        lo: halved_down(e.lo, k),
-        hi: halved_up(e.hi, k),
+        lo: floor_shift(e.lo, k),
+        hi: ceil_shift(e.hi, k),
     }
 }
 
-/// Returns `z / 2^k`, rounded down.
+/// Returns an end of an entry divided by `2^k`, rounded down. `k` is at most 13.
 #[inline(always)]
-fn halved_down(z: i64, k: u32) -> i64
+fn floor_shift(z: i64, k: u32) -> i64
     requires { k ≤ 13 }
     ensures { result ≡ floor_div z (2 ^ k) }
 {
     z >> k
 }
 
-/// Returns `z / 2^k`, rounded up.
+/// Returns an end of an entry divided by `2^k`, rounded up. `k` is at most 13.
 #[inline(always)]
-fn halved_up(z: i64, k: u32) -> i64
+fn ceil_shift(z: i64, k: u32) -> i64
     requires few { k ≤ 13 }
     requires above_least { unsigned_abs z ≤ 2 ^ 60 }
     ensures { result ≡ ceil_div z (2 ^ k) }

@@ -1,15 +1,15 @@
 -- How a body is seen from a column, and from the barycentre of the solar system.
-use Rattle.std.proofs.Common.{◌≡◌, ◌∙◌, ℕ, refl, subst, sym, ap}
+use Rattle.std.proofs.Common.{◌≡◌, ◌∙◌, ◌≤◌, ℕ, arith, refl, subst, sym, ap}
 use Rattle.spec_bodies.specs.declared.quantity.Quantity.{Quantity}
 use Rattle.spec_bodies.specs.declared.source.Source.{Source}
 use Rattle.spec_bodies.specs.declared.source.Source.TheVariants.{OwnColumn, EarthOfPair, MoonOfPair, Origin}
-use Rattle.spec_bodies.specs.Coordinates.{Coordinate, barycentric_coordinate, displacement, less, of_column}
+use Rattle.spec_bodies.specs.Coordinates.{Coordinate, barycentric_coordinate, displacement, less}
 use Rattle.spec_steps.specs.declared.sights.Sight.{Sight}
 use Rattle.spec_steps.specs.ColumnTerms.{of_coordinate, target_of}
 use Rattle.column_steps.specs.Listed.{Enters, Listed}
-use Rattle.column_steps.specs.Places.{displacement_of}
+use Rattle.column_steps.specs.Places.{displacement_of, steps_of}
 
-pub column_apart : (source : Source) (number axis : ℕ) → displacement source (OwnColumn number) axis ≡ less (barycentric_coordinate source axis) (of_column number axis)
+pub column_apart : (source : Source) (number axis : ℕ) → displacement source (OwnColumn number) axis ≡ less (barycentric_coordinate source axis) (barycentric_coordinate (OwnColumn number) axis)
 column_apart (OwnColumn m) number axis = refl
 column_apart EarthOfPair number axis = refl
 column_apart MoonOfPair number axis = refl
@@ -20,6 +20,12 @@ origin_apart (OwnColumn m) axis = refl
 origin_apart EarthOfPair axis = refl
 origin_apart MoonOfPair axis = refl
 origin_apart Origin axis = refl
+
+pub few_steps : (source : Source) → steps_of source ≤ 6
+few_steps (OwnColumn m) = omega arith
+few_steps EarthOfPair = omega arith
+few_steps MoonOfPair = omega arith
+few_steps Origin = omega arith
 
 -- a step for a coordinate is one for what the coordinate is
 pub entered_as : (a b : Listed) (n place : ℕ) (q : Quantity) (c d : Coordinate) → d ≡ c → Enters a b n place (of_coordinate q c) → Enters a b n place (of_coordinate q d)

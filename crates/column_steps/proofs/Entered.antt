@@ -1,9 +1,10 @@
 -- What is known of a term that is entered after its parts.
 use Rattle.std.proofs.Common.{◌≡◌, ◌∙◌, ℕ, ◌+◌, ◌<◌, ◌≤◌, arith, sym, subst, refl}
 use Rattle.spec_bodies.specs.Coordinates.{Coordinate}
-use Rattle.spec_steps.specs.ColumnTerms.{ColumnTerm}
+use Rattle.spec_steps.specs.declared.steps.Step.TheVariants.{Difference, Sum}
+use Rattle.spec_steps.specs.ColumnTerms.{ColumnTerm, difference, sum}
 use Rattle.spec_steps.specs.Parts.{IsPart, IsSeen}
-use Rattle.column_steps.specs.Listed.{Enters, Grows, Listed, Stands, listed_term, step_count}
+use Rattle.column_steps.specs.Listed.{CanEnter, Enters, Grows, Listed, Stands, listed_term, step_count}
 
 -- ---- lists that grow
 pub grows_on : (a b c : Listed) (m n k : ℕ) → m + n ≤ k → Grows a b m → Grows b c n → Grows a c k
@@ -63,3 +64,11 @@ module _ (whole : ColumnTerm → ColumnTerm → ColumnTerm) (a b c : Listed) (m 
 -- a part that stands is there with no step more
 pub again : (a b : Listed) (m x : ℕ) (p : ColumnTerm) → Enters a b m x p → Enters b b 0 x p
 again a b m x p is = record { grown = grows_none b; stands = is.stands }
+
+-- ---- the step of two parts may be entered after them
+pub can_enter_sum : (a b c : Listed) (m n x y : ℕ) (p q : ColumnTerm) → Enters a b m x p → Enters b c n y q → IsPart a.sight (sum p q) → CanEnter c (Sum x y)
+can_enter_sum a b c m n x y p q first second part = record { operands = both_below sum a b c m n x y p q first second; part = both_part sum a b c m n x y p q first second part }
+
+pub can_enter_difference : (a b c : Listed) (m n x y : ℕ) (p q : ColumnTerm) → Enters a b m x p → Enters b c n y q → IsPart a.sight (difference p q) → CanEnter c (Difference x y)
+can_enter_difference a b c m n x y p q first second part =
+    record { operands = both_below difference a b c m n x y p q first second; part = both_part difference a b c m n x y p q first second part }

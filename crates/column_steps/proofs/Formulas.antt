@@ -5,16 +5,15 @@ use Rattle.spec_expressions.specs.Term.{IsFormula, IsLeaf, Leaf, Term, leaf, nod
 use Rattle.spec_steps.specs.declared.sights.Sight.{Sight}
 use Rattle.spec_steps.specs.ColumnTerms.{ColumnTerm, of_leaf, of_term}
 use Rattle.spec_steps.specs.Parts.{IsPart}
-use Rattle.column_steps.specs.declared.places.LeafPlaces.{LeafPlaces}
 use Rattle.column_steps.specs.Listed.{Enters, Grows, IsMadeAt, Listed, Stands, listed_term, step_count}
-use Rattle.column_steps.specs.Places.{ArePlaced, place_of}
+use Rattle.column_steps.specs.Places.{ArePlaced, LeafPlaces, entry_of}
 use Rattle.column_steps.proofs.Entered.{both_below, both_entered, both_part, grows_more, grows_none, grows_on}
 
 -- ---- coordinates
 pub placed_later : (a b : Listed) (n : ℕ) (p : LeafPlaces) (e d : Term) → Grows a b n → ((l : Leaf) → Names d l → Names e l) → ArePlaced a p e → ArePlaced b p d
-placed_later a b n p e d grown inside are = λ l is named. subst (λ s. Stands b (place_of p l) (of_leaf s l)) (sym grown.sight) (grown.kept _ _ (are l is (inside l named)))
+placed_later a b n p e d grown inside are = λ l is named. subst (λ s. Stands b (entry_of p l) (of_leaf s l)) (sym grown.sight) (grown.kept _ _ (are l is (inside l named)))
 
-pub leaf_entered : (a : Listed) (p : LeafPlaces) (k : ℕ) (l : Leaf) → k ≡ place_of p l → IsLeaf l → ArePlaced a p (leaf l) → Enters a a 1 k (of_leaf a.sight l)
+pub leaf_entered : (a : Listed) (p : LeafPlaces) (k : ℕ) (l : Leaf) → k ≡ entry_of p l → IsLeaf l → ArePlaced a p (leaf l) → Enters a a 1 k (of_leaf a.sight l)
 leaf_entered a p k l same is are = record { grown = grows_more a a 0 1 (omega arith) (grows_none a); stands = subst (λ j. Stands a j (of_leaf a.sight l)) (sym same) (are l is refl) }
 
 -- the room for a second part

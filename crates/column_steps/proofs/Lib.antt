@@ -5,3 +5,4 @@ mod Formulas
 mod Framed
 mod Turned
 pub mod Entered
+pub mod WholeFormulas

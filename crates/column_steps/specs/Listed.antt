@@ -1,8 +1,9 @@
 -- Lists of steps for a sight, and what is known of a term that was entered into one.
-use Rattle.std.specs.Prelude.{◌≡◌, ℕ, ◌+◌, ◌<◌, ◌≤◌, List, length}
+use Rattle.std.specs.Prelude.{◌≡◌, Bool, true, false, ℕ, ◌+◌, ◌<◌, ◌≤◌, List, length}
 use Rattle.spec_bodies.specs.declared.factor.Factor.TheVariants.{Cosine, Sine}
 use Rattle.spec_steps.specs.declared.sights.Sight.{Sight}
 use Rattle.spec_steps.specs.declared.steps.Step.{Step}
+use Rattle.spec_steps.specs.declared.steps.Step.TheVariants.{Sum, Difference}
 use Rattle.spec_steps.specs.ColumnTerms.{ColumnTerm, difference, scaled, sum}
 use Rattle.spec_steps.specs.Parts.{IsPart}
 use Rattle.spec_steps.specs.Steps.{IsStep, step_term, term_at, terms_of}
@@ -48,11 +49,19 @@ pub record AreListed (l : Listed) (x y : ℕ) (whole : ColumnTerm → ColumnTerm
   pub part : IsPart l.sight (whole first second)
 
 -- ---- turned by the obliquity: y and z along the axes of the ecliptic
-abbrev pub turned_y : ColumnTerm → ColumnTerm → ColumnTerm
-turned_y y z = sum (scaled Cosine y) (scaled Sine z)
+-- the sum of two terms, or the first less the second
+abbrev pub combined : Bool → ColumnTerm → ColumnTerm → ColumnTerm
+combined true = sum
+combined false = difference
 
-abbrev pub turned_z : ColumnTerm → ColumnTerm → ColumnTerm
-turned_z y z = difference (scaled Cosine z) (scaled Sine y)
+-- and the step of it, by the numbers of the steps of both
+abbrev pub combination : Bool → ℕ → ℕ → Step
+combination true = Sum
+combination false = Difference
+
+-- y' = turned true y z and z' = turned false z y
+abbrev pub turned : Bool → ColumnTerm → ColumnTerm → ColumnTerm
+turned sums p q = combined sums (scaled Cosine p) (scaled Sine q)
 
 -- of how many steps values are made at most
 abbrev pub slot_limit : ℕ

@@ -9,7 +9,8 @@ use spec_bodies::Quantity;
 use spec_steps::Step;
 
 impl StepList {
-    /// The axes of the files along which the steps up to one read a quantity of columns. No answer rests on them.
+    /// Returns the axes of the files along which columns are read for a quantity, a position or a velocity, by the
+    /// steps up to and with the one at `place`. No contract says which axes these are, and no answer rests on them.
     pub fn axes_read(&self, quantity: Quantity, place: usize) -> Axes
         requires { place < step_count self.now }
     {
@@ -22,7 +23,8 @@ impl StepList {
     }
 }
 
-// Those along which a step reads it.
+// Returns the axis of the files along which one step reads a quantity of a column, as a set of one axis. The set is
+// empty if the step is no column, or one of the other quantity.
 fn axes_of(step: Step, quantity: Quantity) -> Axes {
     match step {
         Step::Column {

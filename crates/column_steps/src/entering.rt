@@ -1,4 +1,4 @@
-// Formulas that are entered into a list of steps.
+// How formulas are entered into a list of steps.
 ghost use Rattle.std.specs.Prelude.{◌≡◌, ◌+◌, ◌<◌, ◌≤◌, IfNone, IfSome};
 ghost use Rattle.spec_expressions.specs.Term.{IsFormula, nodes, term};
 ghost use Rattle.spec_steps.specs.ColumnTerms.{of_term};
@@ -13,8 +13,8 @@ use spec_expressions::Expr;
 use spec_steps::{Sight, Step};
 
 impl StepList {
-    /// The steps of a formula for what is seen, and the number of that which stands for it. There is one for each formula:
-    /// at most 120 for the coordinates that it names, and one for each of its nodes.
+    /// Returns the steps of a formula, for given targets, observer and frame, and the number of the step that stands
+    /// for the formula. There are at most 120 steps for coordinates, and one for each node of the formula.
     pub fn of(sight: Sight, formula: &Formula) -> (StepList, usize)
         ensures sight { result.0.sight ≡ sight }
         ensures made { IsMadeAt result.0 result.1 (of_term sight formula.now) }
@@ -22,13 +22,14 @@ impl StepList {
     {
         let _expr = formula.expr();
         let mut steps = StepList::none(sight);
-        let place = steps.entered(formula);
+        let place = steps.enter_formula(formula);
         (steps, place)
     }
 
-    /// The number of the step that stands for a formula, whose parts are added where the list has none that are the same;
-    /// none only where the steps so far, those of coordinates and the nodes of the formula may be more than 256 together. The
-    /// steps that it needs are those up to its own, and those so far stay where they are.
+    /// Enters the steps of one more formula, and returns the number of the step that stands for the formula. A step
+    /// that the list has already is not added again, and no step changes its number. Returns None if a value of the
+    /// step would have no slot: only if the steps so far, 120 for coordinates and the nodes of the formula are more
+    /// than 256.
     pub fn add(&mut self, formula: &Formula) -> Option<usize>
         ensures kept { Grows self.old self.new (120 + nodes formula.now) }
         ensures made { IfSome result (λ place. IsMadeAt self.new place
@@ -39,24 +40,26 @@ impl StepList {
         if self.count() > MAX_STEPS {
             return None;
         }
-        let place = self.entered(formula);
+        let place = self.enter_formula(formula);
         if place < MAX_STEPS { Some(place) } else { None }
     }
 
-    // The step that stands for a formula, after those of the coordinates that it names.
-    fn entered(&mut self, formula: &Formula) -> usize
+    // Enters the steps of the coordinates that a formula names, and then those of the formula's parts. Returns the
+    // number of the step that stands for the whole formula.
+    fn enter_formula(&mut self, formula: &Formula) -> usize
         requires room { step_count self.old ≤ 256 }
         ensures { Enters self.old self.new (120 + nodes formula.now) result
             (of_term self.old.sight formula.now) }
     {
         sets_have_what_is_named();
         let expr = formula.expr();
-        let places = self.leaf_places(&formula.leaves());
-        self.part(expr, &places)
+        let places = self.enter_leaves(&formula.leaves());
+        self.enter_part(expr, &places)
     }
 
-    // That of a formula's expression or a part of it, where those of its coordinates are there.
-    fn part(&mut self, expr: &Expr, places: &LeafPlaces) -> usize
+    // Enters the steps of a formula's expression, or of a part of the expression, once those of the coordinates are
+    // entered, whose numbers `places` has. Returns the number of the step that stands for the expression.
+    fn enter_part(&mut self, expr: &Expr, places: &LeafPlaces) -> usize
         requires formula { IsFormula (term expr.now) }
         requires placed { ArePlaced self.old places.now (term expr.now) }
         requires room { step_count self.old + nodes (term expr.now) ≤ 512 }
@@ -69,22 +72,22 @@ impl StepList {
             Expr::Length(length) => self.enter(Step::Length(*length)),
             Expr::Cosine(cosine) => self.enter(Step::Cosine(*cosine)),
             Expr::Add(x, y) => {
-                let x = self.part(x, places);
-                let y = self.part(y, places);
+                let x = self.enter_part(x, places);
+                let y = self.enter_part(y, places);
                 self.enter(Step::Sum(x, y))
             }
             Expr::Sub(x, y) => {
-                let x = self.part(x, places);
-                let y = self.part(y, places);
+                let x = self.enter_part(x, places);
+                let y = self.enter_part(y, places);
                 self.enter(Step::Difference(x, y))
             }
             Expr::Mul(x, y) => {
-                let x = self.part(x, places);
-                let y = self.part(y, places);
+                let x = self.enter_part(x, places);
+                let y = self.enter_part(y, places);
                 self.enter(Step::Product(x, y))
             }
             Expr::SignedSquare(x) => {
-                let x = self.part(x, places);
+                let x = self.enter_part(x, places);
                 self.enter(Step::SignedSquare(x))
             }
         }

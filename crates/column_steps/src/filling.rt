@@ -1,4 +1,4 @@
-// The values of steps, one after the other.
+// How the values of steps are written into slots, one after the other.
 ghost use Rattle.std.specs.Prelude.{◌≡◌, ◌<◌, ◌≤◌, length};
 ghost use Rattle.spec_steps.specs.Steps.{terms_of};
 ghost use Rattle.column_steps.specs.Listed.{listed_term, step_count};
@@ -8,8 +8,9 @@ use crate::arithmetic::Arithmetic;
 use crate::step_list::StepList;
 use spec_steps::Step;
 
-/// Writes the values of the steps from number `made` to before number `upto` into their slots, where those before are made.
-/// The slots from `made` on may hold anything.
+/// Writes the values of the steps from number `made` on, up to but without `upto`, into the slots of the same numbers.
+/// The slots before `made` must hold their values already; the others may hold anything. Nothing is written if both
+/// numbers are equal.
 pub fn fill<A: Arithmetic>(
     arithmetic: &A,
     steps: &StepList,
@@ -27,12 +28,13 @@ pub fn fill<A: Arithmetic>(
     ensures values { AreValues (A.is_value arithmetic.now) (terms_of steps.now.steps) upto slots.new }
 {
     for place in made..upto {
-        slots[place] = value_of(arithmetic, steps, place, slots);
+        slots[place] = value_from_slots(arithmetic, steps, place, slots);
     }
 }
 
-// The value of a step, by those of the steps before it.
-fn value_of<A: Arithmetic>(
+// Returns the value of the step at `place`, by those of its operands, which are earlier steps: their values are read
+// from their slots. Slots from `place` on are not read.
+fn value_from_slots<A: Arithmetic>(
     arithmetic: &A,
     steps: &StepList,
     place: usize,

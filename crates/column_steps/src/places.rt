@@ -1,30 +1,37 @@
-// The steps that stand for coordinates of the targets.
+// Tables with an entry for each coordinate of the targets, and the steps that stand for coordinates.
 ghost use Rattle.std.specs.Prelude.{◌≡◌, ◌<◌};
 ghost use Rattle.spec_expressions.specs.Term.{position as position_of, velocity as velocity_of};
-ghost use Rattle.column_steps.specs.Places.{place_along, place_of};
+ghost use Rattle.column_steps.specs.Places.{entry_along, entry_of};
 
-/// The numbers of the steps for a target's coordinates along three axes; any where one was not asked for.
+/// A table with one entry for each of the three axes of a frame.
 #[derive(Clone, Copy)]
-pub(crate) struct AxisPlaces {
-    pub x: usize,
-    pub y: usize,
-    pub z: usize,
+pub(crate) struct AxisTable<T> {
+    pub x: T,
+    pub y: T,
+    pub z: T,
 }
 
-/// Those of both quantities of both targets.
+/// A table with one entry for each of twelve coordinates: position and velocity of both targets along three axes.
 #[derive(Clone, Copy)]
-pub(crate) struct LeafPlaces {
-    pub first_position: AxisPlaces,
-    pub second_position: AxisPlaces,
-    pub first_velocity: AxisPlaces,
-    pub second_velocity: AxisPlaces,
+pub(crate) struct CoordinateTable<T> {
+    pub first_position: AxisTable<T>,
+    pub second_position: AxisTable<T>,
+    pub first_velocity: AxisTable<T>,
+    pub second_velocity: AxisTable<T>,
 }
 
-impl AxisPlaces {
-    // That along an axis, counted from 0.
-    fn along(&self, axis: u8) -> usize
+/// The numbers of the steps for a target's coordinates along three axes. The entry of a coordinate that was not wanted
+/// may be any number.
+pub(crate) type AxisPlaces = AxisTable<usize>;
+
+/// The numbers of the steps for the twelve coordinates, the leaves of a formula's tree.
+pub(crate) type LeafPlaces = CoordinateTable<usize>;
+
+impl<T: Copy> AxisTable<T> {
+    // Returns the entry of an axis: x for 0, y for 1, z for 2.
+    fn entry_along(&self, axis: u8) -> T
         requires { axis < 3 }
-        ensures { result ≡ place_along self.now axis }
+        ensures { result ≡ entry_along self.now axis }
     {
         match axis {
             0 => self.x,
@@ -34,28 +41,28 @@ impl AxisPlaces {
     }
 }
 
-impl LeafPlaces {
-    /// That of a target's position along an axis.
-    pub fn position(&self, target: u8, axis: u8) -> usize
+impl<T: Copy> CoordinateTable<T> {
+    /// Returns the entry of a target's position along an axis. Targets (0 and 1) and axes (0 to 2) count from 0.
+    pub fn position(&self, target: u8, axis: u8) -> T
         requires target { target < 2 }
         requires axis { axis < 3 }
-        ensures { result ≡ place_of self.now (position_of target axis) }
+        ensures { result ≡ entry_of self.now (position_of target axis) }
     {
         match target {
-            0 => self.first_position.along(axis),
-            _ => self.second_position.along(axis),
+            0 => self.first_position.entry_along(axis),
+            _ => self.second_position.entry_along(axis),
         }
     }
 
-    /// That of a target's velocity along an axis.
-    pub fn velocity(&self, target: u8, axis: u8) -> usize
+    /// Returns the entry of a target's velocity along an axis. Targets (0 and 1) and axes (0 to 2) count from 0.
+    pub fn velocity(&self, target: u8, axis: u8) -> T
         requires target { target < 2 }
         requires axis { axis < 3 }
-        ensures { result ≡ place_of self.now (velocity_of target axis) }
+        ensures { result ≡ entry_of self.now (velocity_of target axis) }
     {
         match target {
-            0 => self.first_velocity.along(axis),
-            _ => self.second_velocity.along(axis),
+            0 => self.first_velocity.entry_along(axis),
+            _ => self.second_velocity.entry_along(axis),
         }
     }
 }

@@ -1,21 +1,23 @@
-// Lists of steps in fixed room.
+// A list of steps in an array of fixed length.
 ghost use Rattle.std.specs.Prelude.{◌≡◌, ◌+◌, ◌<◌, ◌≤◌, ◌++◌, ◌∷◌, [], IfSome, length};
 ghost use Rattle.spec_steps.specs.Parts.{IsPart};
 ghost use Rattle.spec_steps.specs.Steps.{IsStepOf, step_term, terms_of};
 ghost use Rattle.column_steps.specs.Listed.{CanEnter, Enters, Stands, step_count};
 
-use crate::sameness::is_same;
+use crate::sameness::is_same_step;
 use spec_steps::step_laws::{one_step_more, steps_stand_for_terms};
 use spec_steps::{Sight, Step};
 use std::marker::Model;
 
-/// Of how many steps of a list values are made at most.
+/// How many steps of a list have values at most, which is how many slots for values are needed.
 pub const MAX_STEPS: usize = 256;
 
-/// The most steps of a list: as many again, so that a formula can be entered before it is known to find room.
+/// The most steps of a list: twice `MAX_STEPS`, so that a formula can be entered before its step is known to have a
+/// slot.
 const ROOM: usize = 512;
 
-/// A well-made list of steps for what is seen, of which each stands for a part of a formula or of a coordinate.
+/// A list of steps for given targets, observer and frame. The operands of a step are earlier steps, and each step
+/// stands for a part of a formula or of a coordinate.
 #[derive(Drop)]
 pub struct StepList {
     pub(crate) sight: Sight,
@@ -23,12 +25,12 @@ pub struct StepList {
     count: usize,
 }
 
-/// A list of steps, with the number of one of them.
+/// A list of steps, with the number of one of the steps: of that which stands for a formula, say.
 #[derive(Clone, Copy)]
 pub struct StepPlace<'s> {
-    /// The list.
+    /// The list of steps.
     pub steps: &'s StepList,
-    /// The number of the step.
+    /// The number of the step in the list, counted from 0.
     pub place: usize,
 }
 
@@ -46,7 +48,7 @@ impl Model for StepList {
 }
 
 impl StepList {
-    /// No step.
+    /// Returns a list without steps, for given targets, observer and frame.
     pub(crate) fn none(sight: Sight) -> StepList
         ensures { result ≡ record { sight = sight; steps = [] } }
     {
@@ -57,7 +59,7 @@ impl StepList {
         }
     }
 
-    /// How many steps there are.
+    /// Returns how many steps the list has, at most 512.
     pub(crate) fn count(&self) -> usize
         ensures count { result ≡ step_count self.now }
         ensures few { result ≤ 512 }
@@ -65,7 +67,7 @@ impl StepList {
         self.count
     }
 
-    /// The step with a number, which counts from 0.
+    /// Returns the step with a number, which counts from 0.
     pub(crate) fn step(&self, place: usize) -> Step
         requires { place < step_count self.now }
         ensures step { IsStepOf (terms_of self.now.steps) place result }
@@ -76,21 +78,22 @@ impl StepList {
         steps[place]
     }
 
-    // The number of a step that is the same.
+    // Returns the number of the first step of the list that is the same as a step given, or None if there is no such
+    // step.
     fn place_of(&self, step: &Step) -> Option<usize>
         ensures { IfSome result (λ place. Stands self.now place
             (step_term (terms_of self.now.steps) step.now)) }
     {
         steps_stand_for_terms();
         for place in 0..self.count {
-            if is_same(&self.steps[place], step) {
+            if is_same_step(&self.steps[place], step) {
                 return Some(place);
             }
         }
         None
     }
 
-    // Adds a step at the end.
+    // Adds a step at the end of the list, whether or not the list has the same step already.
     fn push(&mut self, step: Step)
         requires room { step_count self.old < 512 }
         requires step { CanEnter self.old step }
@@ -101,7 +104,8 @@ impl StepList {
         self.count += 1;
     }
 
-    /// The number of a step in the list, which is added where none is the same.
+    /// Returns the number that a step has in the list. The step is added at the end if the list has no step that is the
+    /// same.
     pub(crate) fn enter(&mut self, step: Step) -> usize
         requires room { step_count self.old + 1 ≤ 512 }
         requires step { CanEnter self.old step }

@@ -10,9 +10,13 @@ use crate::walk::read_line;
 use de_text::Line;
 use spec_files::ReadError;
 
-// Reads a line within a block, and takes the block in once it is whole. The place is where the line leaves the reader.
+// Reads a line within a block into it, and accepts the block once it is whole. Returns whether the reader then stands
+// inside a block or between two. Errors: the fault of the first rule that the line breaks, or out of memory.
 #[inline(always)]
-pub(crate) fn take_line(block: &mut OpenBlock, line: &Line<'_>) -> Result<Place, ReadError>
+pub(crate) fn read_line_and_accept(
+    block: &mut OpenBlock,
+    line: &Line<'_>,
+) -> Result<Place, ReadError>
     requires checked { IsEphemeris block.old.accepted }
     requires read { AreRead block.old.accepted block.old.numbers }
     requires few { length block.old.numbers < block.old.accepted.header.ncoeff }

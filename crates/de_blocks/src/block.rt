@@ -11,12 +11,13 @@ ghost use Rattle.eph_model.specs.Stores.{IsRounded, cut_to};
 ghost use Rattle.de_blocks.specs.Dates.{AreDates, AreRuled, number_in, ruled_by};
 ghost use Rattle.de_blocks.specs.Steps.{Pushes};
 
-use crate::closing::close;
+use crate::closing::append_block;
 use crate::dates::{Dates, RuledNumber};
 use crate::rules::{
-    coefficient_rule, first_date, is_large, is_skipped, number_of, second_date, with_dates,
+    check_coefficient, dates_if_rule_met, is_block_skipped, is_too_large_number, read_first_date,
+    read_number, read_second_date,
 };
-use eph_model::{BlockStore, Ephemeris, Rounded, quick_pair, rounded};
+use eph_model::{BlockStore, Ephemeris, Rounded, rounded, rounded_pair_by_guess};
 use spec_ephemeris::Header;
 use spec_files::{BrokenRule, ReadError, ruled_at};
 use spec_text::Decimal;
@@ -42,7 +43,7 @@ impl Model for OpenBlock {
 }
 
 impl OpenBlock {
-    /// No block and no number. It does not allocate.
+    /// Makes an open block without a number, after no blocks, for the files of this header. It does not allocate.
     pub fn new(alloc: Global, header: Header) -> Self
         requires { IsHeader header }
         ensures accepted { result.accepted ≡ no_blocks header }
@@ -54,7 +55,8 @@ impl OpenBlock {
         }
     }
 
-    /// The header.
+    /// Returns the header of the files, which meets the rules. The clause `checked` gives callers what holds for the
+    /// blocks before.
     pub fn header(&self) -> &Header
         ensures same { result.now ≡ self.now.accepted.header }
         ensures checked { IsEphemeris self.now.accepted }
@@ -62,14 +64,14 @@ impl OpenBlock {
         self.store.header()
     }
 
-    /// The numbers of the block that was begun.
+    /// Returns how many numbers of the block that was begun are there.
     pub fn count(&self) -> usize
         ensures { result ≡ length self.now.numbers }
     {
         self.store.count()
     }
 
-    /// Keeps the first numbers alone.
+    /// Drops all numbers of the block that was begun but the first `count`. The blocks before it stay.
     pub fn truncate(&mut self, count: usize)
         requires { count ≤ length self.old.numbers }
         ensures { self.new ≡ cut_to count self.old }
@@ -77,26 +79,29 @@ impl OpenBlock {
         self.store.truncate(count);
     }
 
-    // The dates with a number that is the first, the second or a later one.
-    fn ruled_dates(&self, d: Decimal, is_large: bool) -> Result<Dates, BrokenRule>
+    // Returns the block's dates once `d` is its next number. The first two numbers of a block are its dates; a later
+    // one changes none, and `is_large` says that it is 2^36 or more in magnitude. Errors: the rule that the number
+    // breaks at its place.
+    fn dates_with(&self, d: Decimal, is_large: bool) -> Result<Dates, BrokenRule>
         requires few { length self.now.numbers < self.now.accepted.header.ncoeff }
         requires size { is_large ≡ is_too_large d }
         ensures { AreRuled self.now.accepted self.now.numbers d result }
     {
         let count = self.store.count();
         if count == 0 {
-            first_date(d)
+            read_first_date(d)
         } else if count == 1 {
-            second_date(&self.store, self.dates.start, d)
+            read_second_date(&self.store, self.dates.start, d)
         } else {
             let columns = self.store.header().columns.as_slice();
-            let ruled = coefficient_rule(columns, count as u32 + 1, d, is_large);
-            with_dates(self.dates, ruled)
+            let ruled = check_coefficient(columns, count as u32 + 1, d, is_large);
+            dates_if_rule_met(self.dates, ruled)
         }
     }
 
-    // A number after the others, with what comes of it.
-    fn ruled(&self, number: Decimal) -> Result<RuledNumber, BrokenRule>
+    // Checks the next number of the block by the rule of its place. Returns it with its rounded pair, and with the
+    // block's dates once it is added. Errors: the rule that it breaks.
+    fn check_number(&self, number: Decimal) -> Result<RuledNumber, BrokenRule>
         requires { length self.now.numbers < self.now.accepted.header.ncoeff }
         ensures value { number_in result ≡ ruled_by self.now.accepted self.now.numbers number }
         ensures dates { IfOk result (λ ruled.
@@ -104,7 +109,7 @@ impl OpenBlock {
         ensures rounded { IfOk result (λ ruled. IsRounded ruled.number ruled.rounded) }
     {
         let rounded = rounded(number);
-        let dates = self.ruled_dates(number, is_large(number, rounded))?;
+        let dates = self.dates_with(number, is_too_large_number(number, rounded))?;
         Ok(RuledNumber {
             number,
             rounded,
@@ -112,23 +117,26 @@ impl OpenBlock {
         })
     }
 
-    /// Puts a number that was read on this line after the others, by all rules.
+    /// Adds a number that was read on this line to the block, by the rules of its place. Errors: the fault of the
+    /// rule that it breaks, or out of memory; the block is then as before. The call is not inlined, since most
+    /// numbers take `push_coefficient`'s fast path.
     #[inline(never)]
-    pub fn push_any(&mut self, line: u32, number: Decimal) -> Result<(), ReadError>
+    pub fn push_number(&mut self, line: u32, number: Decimal) -> Result<(), ReadError>
         requires { length self.old.numbers < self.old.accepted.header.ncoeff }
         ensures pushed { (word : List ℕ) → Ok number ≡ reading word
             → Pushes self.old.accepted self.old.numbers line word result self.new.numbers }
         ensures same { self.new.accepted ≡ self.old.accepted }
     {
-        let ruled = ruled_at(line, self.ruled(number))?;
+        let ruled = ruled_at(line, self.check_number(number))?;
         self.store.push(ruled.number, ruled.rounded)?;
         self.dates = ruled.dates;
         Ok(())
     }
 
-    // Puts a number below 2^36 in size after the others, of which the first two are there.
+    // Adds a coefficient below 2^36 in magnitude, with its rounded pair, to a block that has its two dates. It breaks
+    // no rule, so that out of memory is the only error.
     #[inline(always)]
-    fn push_small(&mut self, number: Decimal, pair: Rounded) -> Result<(), ReadError>
+    fn push_small_coefficient(&mut self, number: Decimal, pair: Rounded) -> Result<(), ReadError>
         requires dates { 2 ≤ length self.old.numbers }
         requires rounded { IsRounded number (Some pair) }
         ensures pushed { (line : ℕ) (word : List ℕ) → Ok number ≡ reading word
@@ -139,22 +147,26 @@ impl OpenBlock {
         Ok(())
     }
 
-    /// Puts a number that was read on this line after the others, of which the first two are there.
+    /// Adds a coefficient that was read on this line to a block that has its two dates. If one multiplication rounds
+    /// it, it is below 2^36 and breaks no rule; else all rules are checked. Errors: the fault of the rule that it
+    /// breaks, or out of memory.
     #[inline(always)]
-    pub fn push_later(&mut self, line: u32, number: Decimal) -> Result<(), ReadError>
+    pub fn push_coefficient(&mut self, line: u32, number: Decimal) -> Result<(), ReadError>
         requires few { length self.old.numbers < self.old.accepted.header.ncoeff }
         requires dates { 2 ≤ length self.old.numbers }
         ensures pushed { (word : List ℕ) → Ok number ≡ reading word
             → Pushes self.old.accepted self.old.numbers line word result self.new.numbers }
         ensures same { self.new.accepted ≡ self.old.accepted }
     {
-        match quick_pair(number) {
-            Some(pair) => self.push_small(number, pair),
-            None => self.push_any(line, number),
+        match rounded_pair_by_guess(number) {
+            Some(pair) => self.push_small_coefficient(number, pair),
+            None => self.push_number(line, number),
         }
     }
 
-    /// Puts the number that a word of this line is after the others.
+    /// Reads a word of this line as a number, and adds it to the block by the rules of its place. Errors: the fault
+    /// of the rule that the word or the number breaks, or out of memory. The call is not inlined, since numbers in
+    /// JPL's form are read without it.
     #[inline(never)]
     pub fn push_word(&mut self, line: u32, word: &[u8]) -> Result<(), ReadError>
         requires { length self.old.numbers < self.old.accepted.header.ncoeff }
@@ -162,11 +174,13 @@ impl OpenBlock {
             self.new.numbers }
         ensures same { self.new.accepted ≡ self.old.accepted }
     {
-        let number = ruled_at(line, number_of(word))?;
-        self.push_any(line, number)
+        let number = ruled_at(line, read_number(word))?;
+        self.push_number(line, number)
     }
 
-    /// Takes the whole block in, where it is not skipped.
+    /// Makes the whole block one of those before it, and begins a block without a number. If the block ends no later
+    /// than the last of those before it, its numbers are dropped. The call is not inlined, since it comes once a
+    /// block.
     #[inline(never)]
     pub fn accept(&mut self)
         requires checked { IsEphemeris self.old.accepted }
@@ -175,14 +189,14 @@ impl OpenBlock {
         ensures accepted { self.new.accepted ≡ with_numbers self.old.accepted self.old.numbers }
         ensures numbers { self.new.numbers ≡ [] }
     {
-        if is_skipped(&self.store, self.dates.end) {
+        if is_block_skipped(&self.store, self.dates.end) {
             self.store.truncate(0);
         } else {
-            close(&mut self.store, self.dates.start);
+            append_block(&mut self.store, self.dates.start);
         }
     }
 
-    /// The ephemeris of the blocks that were accepted.
+    /// Returns the ephemeris of the blocks that were accepted, without the block that was begun.
     pub fn finish(self) -> Ephemeris
         ensures { result ≡ self.accepted }
     {

@@ -7,8 +7,8 @@ ghost use Rattle.eph_model.specs.Starting.{starting_at};
 
 use eph_model::BlockStore;
 
-// The first block says when the ephemeris begins.
-fn close_first(before: &mut BlockStore, start: i64)
+// Makes the whole block the first of the ephemeris, which then starts at this time, in seconds of TDB since J2000.
+fn append_first_block(before: &mut BlockStore, start: i64)
     requires block { IsBlock before.old.accepted.header before.old.numbers }
     requires room { before.old.accepted.blocks < MAX_BLOCKS }
     requires start { IsStart start }
@@ -20,9 +20,10 @@ fn close_first(before: &mut BlockStore, start: i64)
     before.start_at(start);
 }
 
-// Adds the whole block, which begins at this time.
+// Makes the whole block, which starts at this time, the next of the ephemeris. If it is the first, the ephemeris
+// starts at this time too. Times are seconds of TDB since J2000.
 #[tactic(auto, using(crate::proofs::Pushing::first_pushed))]
-pub(crate) fn close(before: &mut BlockStore, start: i64)
+pub(crate) fn append_block(before: &mut BlockStore, start: i64)
     requires checked { IsEphemeris before.old.accepted }
     requires block { IsBlock before.old.accepted.header before.old.numbers }
     requires room { before.old.accepted.blocks < MAX_BLOCKS }
@@ -32,7 +33,7 @@ pub(crate) fn close(before: &mut BlockStore, start: i64)
     ensures numbers { before.new.numbers ≡ [] }
 {
     if before.blocks() == 0 {
-        close_first(before, start);
+        append_first_block(before, start);
     } else {
         before.close_block();
     }

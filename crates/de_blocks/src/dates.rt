@@ -16,7 +16,7 @@ pub(crate) struct Dates {
 pub(crate) struct RuledNumber {
     /// The number.
     pub number: Decimal,
-    /// The number rounded, where it is below 2^36 in size.
+    /// The number rounded, if it is below 2^36 in magnitude.
     pub rounded: Option<Rounded>,
     /// The dates of the block with the number.
     pub dates: Dates,

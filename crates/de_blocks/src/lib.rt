@@ -1,6 +1,6 @@
 //! The blocks of a file, read line by line after its header. Lines come in, as the text reader cuts them; what goes out
-//! is the ephemeris, or the first fault. Each number is written straight into the store of the ephemeris, cut back where its
-//! line is refused, and counts once its block is whole.
+//! is the ephemeris, or the first fault. Each number is written straight into the store of the ephemeris. It is dropped if
+//! its line is refused, and counts once its block is whole.
 #![tactic(auto)]
 
 mod accepting;

@@ -7,10 +7,10 @@ ghost use Rattle.spec_files.specs.declared.errors.ReadError.TheVariants as error
 ghost use Rattle.de_blocks.specs.Reader.{Ends, GivesAgain, HasBlocks, HasRead, IsAt, IsNotMemory, IsNotRefused, IsRefused, KeepsFault, Takes, answer, from_record, says};
 ghost use Rattle.de_blocks.specs.declared.state.Place.TheVariants as places;
 
-use crate::accepting::take_line;
+use crate::accepting::read_line_and_accept;
 use crate::answers::BlockError;
 use crate::block::OpenBlock;
-use crate::rules::record_line;
+use crate::rules::check_record_line;
 use crate::state::Place;
 use de_text::Line;
 use eph_model::Ephemeris;
@@ -45,7 +45,8 @@ impl Model for BlockReader {
     }) };
 }
 
-fn ended(line: u32, number: u8) -> BlockError
+// Makes the error of a text that ends too early: the fault of this number, at this line.
+fn fault_at_end(line: u32, number: u8) -> BlockError
     ensures { result ≡ errors.Fault (record { line = line; number = number; detail = 0 }) }
 {
     BlockError::Fault(Fault {
@@ -55,20 +56,21 @@ fn ended(line: u32, number: u8) -> BlockError
     })
 }
 
-// The blocks, where the lines end after one of them.
-fn whole(accepted: Ephemeris, line: u32) -> Result<Ephemeris, BlockError>
+// Returns the ephemeris of the accepted blocks, for a text that ends between two blocks. Errors: the fault `NO_BLOCK`
+// at this line, if there is no block.
+fn ephemeris_at_end(accepted: Ephemeris, line: u32) -> Result<Ephemeris, BlockError>
     ensures end { Ends line (from_record accepted []) result }
     ensures rules { IfOk result HasBlocks }
 {
     if accepted.blocks() == 0 {
-        Err(ended(line, NO_BLOCK))
+        Err(fault_at_end(line, NO_BLOCK))
     } else {
         Ok(accepted)
     }
 }
 
 impl BlockReader {
-    /// A reader that waits for the first line after the header. It takes no memory.
+    /// Makes a reader that waits for the first line after the header. It does not allocate.
     pub fn new(alloc: Global, header: Header) -> Self
         requires { IsHeader header }
         ensures blocks { IsAt result (blocks header) }
@@ -80,8 +82,8 @@ impl BlockReader {
         }
     }
 
-    // Keeps the first fault.
-    fn refuse(&mut self, fault: Fault) -> Result<(), BlockError>
+    // Drops the block that was begun, keeps the fault as the answer to all later lines, and returns it.
+    fn keep_fault(&mut self, fault: Fault) -> Result<(), BlockError>
         ensures refused { IsRefused self.new fault }
         ensures result { result ≡ Err (errors.Fault fault) }
     {
@@ -90,36 +92,39 @@ impl BlockReader {
         Err(BlockError::Fault(fault))
     }
 
-    // Reads the line before the numbers of a block.
+    // Reads the record line, which stands before the numbers of a block. After it the reader stands inside the block.
+    // Errors: the fault of a line that breaks the rule of record lines, which the reader keeps for good. The call is
+    // not inlined, since it comes once a block.
     #[inline(never)]
-    fn begin(&mut self, line: &Line<'_>) -> Result<(), BlockError>
+    fn begin_block(&mut self, line: &Line<'_>) -> Result<(), BlockError>
         requires { self.old.place ≡ places.Between }
         ensures { Takes self.old line.now result self.new }
     {
-        match record_line(self.block.header().ncoeff, line) {
+        match check_record_line(self.block.header().ncoeff, line) {
             Ok(()) => {
                 self.place = Place::Inside;
                 Ok(())
             }
-            Err(broken) => self.refuse(broken.at_line(line.number())),
+            Err(broken) => self.keep_fault(broken.at_line(line.number())),
         }
     }
 
-    // Reads a line within a block.
+    // Reads a line within a block. Errors: the fault of the first rule that the line breaks, which the reader keeps
+    // for good; or out of memory, after which the reader is as before the line.
     #[inline(always)]
-    fn go_on(&mut self, line: &Line<'_>) -> Result<(), BlockError>
+    fn continue_block(&mut self, line: &Line<'_>) -> Result<(), BlockError>
         requires { self.old.place ≡ places.Inside }
         ensures { Takes self.old line.now result self.new }
     {
         let kept = self.block.count();
-        match take_line(&mut self.block, line) {
+        match read_line_and_accept(&mut self.block, line) {
             Ok(place) => {
                 self.place = place;
                 Ok(())
             }
             Err(BlockError::Fault(fault)) => {
                 self.block.truncate(kept);
-                self.refuse(fault)
+                self.keep_fault(fault)
             }
             Err(BlockError::Memory) => {
                 self.block.truncate(kept);
@@ -128,10 +133,10 @@ impl BlockReader {
         }
     }
 
-    /// Reads the next line. `Fault` comes at the first line that breaks a rule and at every line after it. After
-    /// `Memory` the reader is as it was before the line.
+    /// Reads the next line. Errors: `Fault` at the first line that breaks a rule and at every line after it;
+    /// `Memory`, after which the reader is as it was before the line.
     #[inline(always)]
-    pub fn line(&mut self, line: &Line<'_>) -> Result<(), BlockError>
+    pub fn read_line(&mut self, line: &Line<'_>) -> Result<(), BlockError>
         ensures says { IsNotMemory result → HasRead self.old line.now self.new }
         ensures answer { IsNotMemory result → result ≡ answer (says 0 self.new []) }
         ensures not_refused { result ≡ Ok tt → IsNotRefused self.new }
@@ -140,22 +145,23 @@ impl BlockReader {
         ensures memory { result ≡ Err errors.Memory → self.new ≡ self.old }
     {
         match self.place {
-            Place::Between => self.begin(&line.unread()),
-            Place::Inside => self.go_on(line),
+            Place::Between => self.begin_block(&line.without_triple()),
+            Place::Inside => self.continue_block(line),
             Place::Refused(fault) => Err(BlockError::Fault(fault)),
         }
     }
 
-    /// The ephemeris, where the lines end at this number, that of the last file's lines plus 1. `Fault` is the kept
-    /// refusal, or at this number fault 36 within a block, and fault 37 where no block was read. It takes no memory.
+    /// Returns the ephemeris of all lines. `line` is the number of the last file's lines plus 1. Errors: the fault
+    /// that was kept; or, at `line`, fault 36 if the lines end within a block, or fault 37 if no block was read. It
+    /// does not allocate.
     pub fn end(self, line: u32) -> Result<Ephemeris, BlockError>
         ensures end { Ends line (says 0 self []) result }
         ensures rules { IfOk result HasBlocks }
     {
         match self.place {
             Place::Refused(fault) => Err(BlockError::Fault(fault)),
-            Place::Inside => Err(ended(line, TRUNCATED)),
-            Place::Between => whole(self.block.finish(), line),
+            Place::Inside => Err(fault_at_end(line, TRUNCATED)),
+            Place::Between => ephemeris_at_end(self.block.finish(), line),
         }
     }
 }

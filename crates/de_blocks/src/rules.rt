@@ -11,7 +11,7 @@ ghost use Rattle.spec_files.specs.BlockRules.{coefficient_rule, first_date, foll
 
 use crate::dates::Dates;
 use de_text::{Line, read_decimal, seconds_of_julian_date};
-use eph_model::{BlockStore, Rounded, is_present, place_after};
+use eph_model::{BlockStore, Rounded, is_present, place_after_column};
 use spec_ephemeris::{BODY_COLUMNS, Column, FIRST_TIME, MAX_BLOCKS};
 use spec_faults::{
     BLOCK_GAP, BLOCK_SPAN, NCOEFF_DIFFERS, NUMBER, RECORD_LINE, TOO_LARGE, TOO_MANY_BLOCKS,
@@ -20,23 +20,25 @@ use spec_faults::{
 use spec_files::BrokenRule;
 use spec_text::Decimal;
 
-// The line before the numbers of a block.
-pub(crate) fn record_line(ncoeff: u32, line: &Line<'_>) -> Result<(), BrokenRule>
+// Checks the record line, which stands before a block's numbers: two whole numbers, the second of which is NCOEFF.
+// Errors: the rule that any other line breaks.
+pub(crate) fn check_record_line(ncoeff: u32, line: &Line<'_>) -> Result<(), BrokenRule>
     ensures { result ≡ record_line ncoeff line.now.tokens }
 {
     if line.count() != 2 {
         return Err(BrokenRule::new(RECORD_LINE, 0));
     }
-    match (line.whole(0), line.whole(1)) {
+    match (line.whole_number_at(0), line.whole_number_at(1)) {
         (Some(_), Some(n)) if n == ncoeff => Ok(()),
         (Some(_), Some(_)) => Err(BrokenRule::new(NCOEFF_DIFFERS, 0)),
         _ => Err(BrokenRule::new(RECORD_LINE, 0)),
     }
 }
 
-// The time of a Julian date.
+// Returns the time of a Julian date, in seconds of TDB since J2000. Errors: the rule that is broken by a date within
+// a second, or out of range.
 #[tactic(auto, using(crate::proofs::Times::time_is_start))]
-pub(crate) fn time_of(date: Decimal) -> Result<i64, BrokenRule>
+pub(crate) fn time_of_date(date: Decimal) -> Result<i64, BrokenRule>
     ensures value { result ≡ time_of date }
     ensures start { IfOk result IsStart }
 {
@@ -46,25 +48,30 @@ pub(crate) fn time_of(date: Decimal) -> Result<i64, BrokenRule>
     }
 }
 
-// A block that ends no later than the last one is skipped.
-pub(crate) fn is_skipped(before: &BlockStore, end: i64) -> bool
+// Tells whether a block that ends at this time is skipped: it ends no later than the last block before it. Files that
+// follow one another overlap by such blocks.
+pub(crate) fn is_block_skipped(before: &BlockStore, end: i64) -> bool
     ensures { result ≡ is_skipped before.now.accepted end }
 {
     0 < before.blocks() && end <= before.end()
 }
 
-fn is_after_gap(before: &BlockStore, start: i64) -> bool
+// Tells whether a block starts at another time than the last block before it ends. The first block, with none before
+// it, does not.
+fn starts_after_gap(before: &BlockStore, start: i64) -> bool
     ensures { result ≡ is_after_gap before.now.accepted start }
 {
     0 < before.blocks() && (start < before.end() || before.end() < start)
 }
 
-fn follows(before: &BlockStore, start: i64, end: i64) -> Result<(), BrokenRule>
+// Checks that a block with these times, in seconds of TDB since J2000, may come after the blocks before it. Errors:
+// the rule of gaps first, then that of too many blocks. A block that is skipped breaks neither.
+fn check_succession(before: &BlockStore, start: i64, end: i64) -> Result<(), BrokenRule>
     ensures { result ≡ follows before.now.accepted start end }
 {
-    if is_skipped(before, end) {
+    if is_block_skipped(before, end) {
         Ok(())
-    } else if is_after_gap(before, start) {
+    } else if starts_after_gap(before, start) {
         Err(BrokenRule::new(BLOCK_GAP, 0))
     } else if before.blocks() < MAX_BLOCKS {
         Ok(())
@@ -73,7 +80,8 @@ fn follows(before: &BlockStore, start: i64, end: i64) -> Result<(), BrokenRule>
     }
 }
 
-fn has_length(length: i64, start: i64, end: i64) -> bool
+// Tells whether a block with these times has the length in seconds that the header says.
+fn has_header_length(length: i64, start: i64, end: i64) -> bool
     requires start { IsStart start }
     requires end { IsStart end }
     ensures { result ≡ has_length length start end }
@@ -81,17 +89,19 @@ fn has_length(length: i64, start: i64, end: i64) -> bool
     length <= end - start && end - start <= length
 }
 
-// The dates with the first of a block.
-pub(crate) fn first_date(date: Decimal) -> Result<Dates, BrokenRule>
+// Returns the dates of a block that has its first number alone, the Julian date at which it starts. Its end is not
+// known yet, and is set to the start. Errors: the rule that the date breaks.
+pub(crate) fn read_first_date(date: Decimal) -> Result<Dates, BrokenRule>
     ensures rule { met result ≡ first_date date }
     ensures dates { IfOk result (λ dates. AreDates (date ∷ []) dates) }
 {
-    let start = time_of(date)?;
+    let start = time_of_date(date)?;
     Ok(Dates { start, end: start })
 }
 
-// The dates with the second of a block that begins at this time.
-pub(crate) fn second_date(
+// Returns the dates of a block that starts at this time and ends at this Julian date. Errors: the rule that is broken
+// by the date, by a length other than the header's, or by a block that cannot come next.
+pub(crate) fn read_second_date(
     before: &BlockStore,
     start: i64,
     date: Decimal,
@@ -102,46 +112,49 @@ pub(crate) fn second_date(
     ensures dates { (first : Decimal) → time_of first ≡ Ok start
         → IfOk result (λ dates. AreDates (first ∷ date ∷ []) dates) }
 {
-    let end = time_of(date)?;
-    if has_length(before.header().block_seconds, start, end) {
-        follows(before, start, end)?;
+    let end = time_of_date(date)?;
+    if has_header_length(before.header().block_seconds, start, end) {
+        check_succession(before, start, end)?;
         Ok(Dates { start, end })
     } else {
         Err(BrokenRule::new(BLOCK_SPAN, 0))
     }
 }
 
-// Whether a place belongs to the column of this number.
-fn is_place(number: usize, column: Column, place: u32) -> bool
+// Tells whether a place of a block, counted from 1, belongs to this column, which has this number.
+fn is_place_of_column(number: usize, column: Column, place: u32) -> bool
     ensures { result ≡ is_place number column place }
 {
-    is_present(column) && column.start <= place && u128::from(place) < place_after(number, column)
+    is_present(column)
+        && column.start <= place
+        && u128::from(place) < place_after_column(number, column)
 }
 
-// Whether a place belongs to one of the columns, which are counted from 1.
-fn is_place_of_any(columns: &[Column], place: u32) -> bool
+// Tells whether a place of a block, counted from 1, belongs to one of these columns, of which the first is column 1.
+fn is_place_of_any_column(columns: &[Column], place: u32) -> bool
     requires { length columns.now ≤ MAX_COLUMNS }
     ensures { result ≡ is_place_of 1 columns.now place }
 {
     for (i, column) in columns.iter().enumerate() {
-        if is_place(i + 1, *column, place) {
+        if is_place_of_column(i + 1, *column, place) {
             return true;
         }
     }
     false
 }
 
-// Whether a place of a block, counted from 1, belongs to a body.
+// Tells whether a place of a block, counted from 1, belongs to a column of a body, one of the first eleven.
 fn is_place_of_body(columns: &[Column], place: u32) -> bool
     requires { IsColumnCount (length columns.now) }
     ensures { result ≡ is_place_of_body columns.now place }
 {
-    is_place_of_any(&columns[..BODY_COLUMNS], place)
+    is_place_of_any_column(&columns[..BODY_COLUMNS], place)
 }
 
-// Whether a number is 2^36 or more in size.
+// Tells whether a number of km is 2^36 or more in magnitude, which is known from its rounded pair: such a number has
+// none.
 #[tactic(auto, using(crate::proofs::Large::large_one, crate::proofs::Large::small_one))]
-pub(crate) fn is_large(number: Decimal, rounded: Option<Rounded>) -> bool
+pub(crate) fn is_too_large_number(number: Decimal, rounded: Option<Rounded>) -> bool
     requires { IsRounded number rounded }
     ensures { result ≡ is_too_large number }
 {
@@ -151,8 +164,12 @@ pub(crate) fn is_large(number: Decimal, rounded: Option<Rounded>) -> bool
     }
 }
 
-// The dates, where a rule is met.
-pub(crate) fn with_dates(dates: Dates, ruled: Result<(), BrokenRule>) -> Result<Dates, BrokenRule>
+// Returns these dates if the rule is met, else the rule that is broken. It joins the check of a coefficient with the
+// dates, which a coefficient does not change.
+pub(crate) fn dates_if_rule_met(
+    dates: Dates,
+    ruled: Result<(), BrokenRule>,
+) -> Result<Dates, BrokenRule>
     ensures rule { met result ≡ ruled }
     ensures dates { IfOk result (λ own. own ≡ dates) }
 {
@@ -162,8 +179,9 @@ pub(crate) fn with_dates(dates: Dates, ruled: Result<(), BrokenRule>) -> Result<
     }
 }
 
-// The rule of a number that is no date, and is 2^36 or more in size or less.
-pub(crate) fn coefficient_rule(
+// Checks a number at a place of a block, counted from 1, after its dates. `is_large` says that the number is 2^36 or
+// more in magnitude. Errors: the rule that such a number breaks at a place of a body.
+pub(crate) fn check_coefficient(
     columns: &[Column],
     place: u32,
     d: Decimal,
@@ -180,8 +198,8 @@ pub(crate) fn coefficient_rule(
     }
 }
 
-// The number that a word is.
-pub(crate) fn number_of(word: &[u8]) -> Result<Decimal, BrokenRule>
+// Reads a word as a decimal. Errors: the rule of numbers with the number of the word's fault, if it is no decimal.
+pub(crate) fn read_number(word: &[u8]) -> Result<Decimal, BrokenRule>
     ensures { result ≡ number_by (reading word.now) }
 {
     match read_decimal(word) {
@@ -190,8 +208,9 @@ pub(crate) fn number_of(word: &[u8]) -> Result<Decimal, BrokenRule>
     }
 }
 
-// A word after the last number of a block.
-pub(crate) fn trailing_rule(word: &[u8]) -> Result<(), BrokenRule>
+// Checks a word after the last number of a block: it has to be the number 0, with which a last line is filled up.
+// Errors: the rule that any other word breaks.
+pub(crate) fn check_trailing_word(word: &[u8]) -> Result<(), BrokenRule>
     ensures { result ≡ trailing_rule word.now }
 {
     match read_decimal(word) {

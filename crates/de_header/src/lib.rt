@@ -1,5 +1,5 @@
 //! The header of a file, read line by line. Lines come in, as the text reader cuts them; what goes out is the header,
-//! or the first fault. Only the end of the reading takes memory, for the columns.
+//! or the first fault. Only the end of the reading allocates, for the columns.
 #![tactic(auto)]
 
 mod answers;

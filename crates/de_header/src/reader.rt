@@ -13,10 +13,11 @@ ghost use Rattle.de_header.specs.declared.answers.Step.TheVariants as steps;
 ghost use Rattle.de_header.specs.Reader.{Ends, Fits, GivesAgain, HasRead, IsAfterNames, IsAfterValues, IsAt, IsNotDone, IsNotWhole, IsOpen, IsRefused, IsWhole, KeepsFault, Moves, answer, from_more_names, from_more_values, or_else, says};
 
 use crate::answers::{HeaderError, Step};
-use crate::columns::{columns_row, first_row, row_of};
+use crate::columns::{read_columns, read_first_row, read_later_row};
 use crate::state::State;
 use crate::words::{
-    find_emrat, first_line, group, is_group, mass_ratio, name_count, span, value_count,
+    check_group, find_emrat, read_block_length, read_emrat_place, read_mass_ratio, read_name_count,
+    read_ncoeff, starts_with_group,
 };
 use de_text::Line;
 use spec_ephemeris::{Column, Columns, Header, MAX_COLUMNS};
@@ -26,16 +27,18 @@ use spec_text::Fault;
 use std::alloc::Global;
 use std::marker::Model;
 
-// Returns how many of the `left` words that are still to come stand on a line.
-fn words_here(left: u32, line: &Line<'_>) -> u32
+// Returns how many of `left` words that are still to come stand on this line: all of its words, but no more than
+// `left`.
+fn words_on_line(left: u32, line: &Line<'_>) -> u32
     ensures { result ≡ min left (length line.now.tokens) }
 {
     (left as usize).min(line.count()) as u32
 }
 
-// Returns the place of `EMRAT` that was found before, or its place among the first `n` words of a line, counted from
-// `start`. None where it is not found yet.
-fn emrat_or(found: Option<u32>, line: &Line<'_>, n: u32, start: u32) -> Option<u32>
+// Returns the place of the name `EMRAT` among all names, counted from 0. It is `found` if it was found before; else
+// it is looked for among the first `n` words of this line, which are counted from `start`. None if it was not found
+// yet.
+fn emrat_place(found: Option<u32>, line: &Line<'_>, n: u32, start: u32) -> Option<u32>
     requires few { start + n ≤ MAX_CONSTANTS }
     requires there { n ≤ length line.now.tokens }
     ensures { result ≡ or_else found (emrat_from start (take n line.now.tokens)) }
@@ -46,10 +49,16 @@ fn emrat_or(found: Option<u32>, line: &Line<'_>, n: u32, start: u32) -> Option<u
     }
 }
 
-// Returns the state in which `left` names are still to come and `passed` are behind. Without any left, the values
-// come next.
+// Returns the state in which `passed` names were read and `left` are still to come. If none is left, it is the state
+// before the values.
 #[tactic(auto, unfolding(crate::specs::Reader::says), using(crate::proofs::Steps::no_names_left))]
-fn to_names(shape: BlockShape, count: u32, left: u32, passed: u32, emrat: Option<u32>) -> State
+fn state_before_names(
+    shape: BlockShape,
+    count: u32,
+    left: u32,
+    passed: u32,
+    emrat: Option<u32>,
+) -> State
     requires few { passed + left ≤ MAX_CONSTANTS }
     requires count { count ≤ MAX_CONSTANTS }
     ensures place { IsAt result (from_more_names shape count left passed emrat) }
@@ -72,7 +81,8 @@ fn to_names(shape: BlockShape, count: u32, left: u32, passed: u32, emrat: Option
     }
 }
 
-// Returns the state after the names on a line.
+// Returns the state after a line of names, of which `passed` were read before and `left` were still to come. The name
+// `EMRAT` may stand on the line.
 fn pass_names(
     shape: BlockShape,
     count: u32,
@@ -85,15 +95,15 @@ fn pass_names(
     ensures moves { Moves (states.Names shape count left passed emrat) line.now (Ok result) }
     ensures fits { Fits result }
 {
-    let here = words_here(left, line);
-    let emrat = emrat_or(emrat, line, here, passed);
-    to_names(shape, count, left - here, passed + here, emrat)
+    let here = words_on_line(left, line);
+    let emrat = emrat_place(emrat, line, here, passed);
+    state_before_names(shape, count, left - here, passed + here, emrat)
 }
 
-// Returns the state in which `left` values after that of `EMRAT` are still to come. Without any left, the columns
-// come next.
+// Returns the state in which `left` values after that of `EMRAT` are still to come. If none is left, it is the state
+// before the columns.
 #[tactic(auto, unfolding(crate::specs::Reader::says), using(crate::proofs::Steps::no_values_left))]
-fn to_more_values(facts: Facts, left: u32) -> State
+fn state_before_values(facts: Facts, left: u32) -> State
     requires { left ≤ MAX_CONSTANTS }
     ensures place { IsAt result (from_more_values facts left) }
     ensures fits { Fits result }
@@ -105,8 +115,9 @@ fn to_more_values(facts: Facts, left: u32) -> State
     }
 }
 
-// Returns the state after the values on a line, where that of `EMRAT` may be among them. A rule is broken by a mass
-// ratio that cannot be read or is out of range.
+// Returns the state after a line of values, of which `left` are still to come, `before` of them before that of
+// `EMRAT`. If the line has that value, it is read. Errors: the rule that is broken by a mass ratio that is no decimal
+// or is out of range.
 fn pass_values(
     shape: BlockShape,
     left: u32,
@@ -117,7 +128,7 @@ fn pass_values(
     ensures moves { Moves (states.ValuesBefore shape left before) line.now result }
     ensures fits { IfOk result Fits }
 {
-    let here = words_here(left, line);
+    let here = words_on_line(left, line);
     if here <= before {
         return Ok(State::ValuesBefore {
             shape,
@@ -125,7 +136,7 @@ fn pass_values(
             before: before - here,
         });
     }
-    match mass_ratio(line, before) {
+    match read_mass_ratio(line, before) {
         Err(broken) => Err(broken),
         Ok(emrat) => {
             let facts = Facts {
@@ -133,28 +144,28 @@ fn pass_values(
                 block_seconds: shape.block_seconds,
                 emrat,
             };
-            Ok(to_more_values(facts, left - here))
+            Ok(state_before_values(facts, left - here))
         }
     }
 }
 
-// Returns the state after the values on a line, where that of `EMRAT` has been read.
+// Returns the state after a line of values that follow that of `EMRAT`. They are counted, and not read.
 fn pass_more_values(facts: Facts, left: u32, line: &Line<'_>) -> State
     requires { Fits (states.ValuesAfter facts left) }
     ensures moves { Moves (states.ValuesAfter facts left) line.now (Ok result) }
     ensures fits { Fits result }
 {
-    let here = words_here(left, line);
-    to_more_values(facts, left - here)
+    let here = words_on_line(left, line);
+    state_before_values(facts, left - here)
 }
 
-// Returns the state after the row of starts, or the first rule that the row breaks.
+// Returns the state after the row of the columns' starts. Errors: the first rule that the row breaks.
 #[tactic(auto, unfolding(crate::specs::Reader::says))]
 fn pass_starts(facts: Facts, line: &Line<'_>) -> Result<State, BrokenRule>
     ensures moves { Moves (states.Starts facts) line.now result }
     ensures fits { IfOk result Fits }
 {
-    let starts = first_row(line)?;
+    let starts = read_first_row(line)?;
     Ok(State::Coefficients {
         facts,
         count: line.count(),
@@ -162,7 +173,7 @@ fn pass_starts(facts: Facts, line: &Line<'_>) -> Result<State, BrokenRule>
     })
 }
 
-// Returns the state after the row of coefficients, or the first rule that the row breaks.
+// Returns the state after the row of the columns' counts of coefficients. Errors: the first rule that the row breaks.
 #[tactic(auto, unfolding(crate::specs::Reader::says))]
 fn pass_coefficients(
     facts: Facts,
@@ -174,7 +185,7 @@ fn pass_coefficients(
     ensures moves { Moves (states.Coefficients facts count starts) line.now result }
     ensures fits { IfOk result Fits }
 {
-    let coefs = row_of(count, line)?;
+    let coefs = read_later_row(count, line)?;
     Ok(State::Granules {
         facts,
         count,
@@ -183,7 +194,8 @@ fn pass_coefficients(
     })
 }
 
-// Returns the state after the row of granules, or the first rule that the row or a column breaks.
+// Returns the state after the row of the columns' counts of granules, with which the columns are whole. Errors: the
+// first rule that the row or a column breaks.
 #[tactic(auto, unfolding(crate::specs::Reader::says))]
 fn pass_granules(
     facts: Facts,
@@ -196,7 +208,7 @@ fn pass_granules(
     ensures moves { Moves (states.Granules facts count starts coefs) line.now result }
     ensures fits { IfOk result Fits }
 {
-    let columns = columns_row(facts, count, &starts, &coefs, line)?;
+    let columns = read_columns(facts, count, &starts, &coefs, line)?;
     Ok(State::EndGroup {
         facts,
         count,
@@ -204,7 +216,8 @@ fn pass_granules(
     })
 }
 
-// Returns the state after a line of the columns, or the first rule that the line breaks.
+// Returns the state after a line of the table of columns, whose states are apart from the earlier ones so that no
+// function has too many of them. Errors: the first rule that the line breaks.
 #[tactic(auto, unfolding(crate::specs::Reader::says))]
 fn step_after_values(state: State, line: &Line<'_>) -> Result<State, BrokenRule>
     requires open { IsOpen state }
@@ -215,7 +228,7 @@ fn step_after_values(state: State, line: &Line<'_>) -> Result<State, BrokenRule>
 {
     match state {
         State::ColumnGroup { facts } => {
-            group(b"1050", 1050, line)?;
+            check_group(b"1050", 1050, line)?;
             Ok(State::Starts { facts })
         }
         State::Starts { facts } => pass_starts(facts, line),
@@ -235,7 +248,7 @@ fn step_after_values(state: State, line: &Line<'_>) -> Result<State, BrokenRule>
             count,
             columns,
         } => {
-            group(b"1070", 1070, line)?;
+            check_group(b"1070", 1070, line)?;
             Ok(State::Whole {
                 facts,
                 count,
@@ -246,7 +259,8 @@ fn step_after_values(state: State, line: &Line<'_>) -> Result<State, BrokenRule>
     }
 }
 
-// Returns the state after a line that stands behind the names, or the first rule that the line breaks.
+// Returns the state after a line that comes after the names: of values, or of the table of columns. Errors: the first
+// rule that the line breaks.
 #[tactic(auto, unfolding(crate::specs::Reader::says))]
 fn step_after_names(state: State, line: &Line<'_>) -> Result<State, BrokenRule>
     requires open { IsOpen state }
@@ -261,7 +275,7 @@ fn step_after_names(state: State, line: &Line<'_>) -> Result<State, BrokenRule>
             count,
             emrat,
         } => {
-            group(b"1041", 1041, line)?;
+            check_group(b"1041", 1041, line)?;
             Ok(State::ValueCount {
                 shape,
                 count,
@@ -273,7 +287,7 @@ fn step_after_names(state: State, line: &Line<'_>) -> Result<State, BrokenRule>
             count,
             emrat,
         } => {
-            let before = value_count(count, emrat, line)?;
+            let before = read_emrat_place(count, emrat, line)?;
             Ok(State::ValuesBefore {
                 shape,
                 left: count,
@@ -290,23 +304,25 @@ fn step_after_names(state: State, line: &Line<'_>) -> Result<State, BrokenRule>
     }
 }
 
-// Returns the state after a title, or after the first line that starts with `GROUP`, which has to be `GROUP 1030`.
+// Returns the state after a line of titles, or after the line that ends them, whose first word is `GROUP`. Errors:
+// the rule that such a line breaks if it is not `GROUP 1030`.
 #[tactic(auto, unfolding(crate::specs::Reader::says))]
 fn pass_title(ncoeff: u32, line: &Line<'_>) -> Result<State, BrokenRule>
     ensures moves { Moves (states.Titles ncoeff) line.now result }
     ensures fits { IfOk result Fits }
 {
-    if is_group(line) {
-        group(b"1030", 1030, line)?;
+    if starts_with_group(line) {
+        check_group(b"1030", 1030, line)?;
         Ok(State::Span { ncoeff })
     } else {
         Ok(State::Titles { ncoeff })
     }
 }
 
-// Returns the state after a line, in any state that wants one, or the first rule that the line breaks.
+// Returns the state after a line, in any state that wants one: no header is whole, and no rule was broken. Errors:
+// the first rule that the line breaks.
 #[tactic(auto, unfolding(crate::specs::Reader::says))]
-fn step(state: State, line: &Line<'_>) -> Result<State, BrokenRule>
+fn step_open_state(state: State, line: &Line<'_>) -> Result<State, BrokenRule>
     requires open { IsOpen state }
     requires fits { Fits state }
     ensures moves { Moves state line.now result }
@@ -314,16 +330,16 @@ fn step(state: State, line: &Line<'_>) -> Result<State, BrokenRule>
 {
     match state {
         State::First => {
-            let ncoeff = first_line(line)?;
+            let ncoeff = read_ncoeff(line)?;
             Ok(State::TitleGroup { ncoeff })
         }
         State::TitleGroup { ncoeff } => {
-            group(b"1010", 1010, line)?;
+            check_group(b"1010", 1010, line)?;
             Ok(State::Titles { ncoeff })
         }
         State::Titles { ncoeff } => pass_title(ncoeff, line),
         State::Span { ncoeff } => {
-            let block_seconds = span(line)?;
+            let block_seconds = read_block_length(line)?;
             let shape = BlockShape {
                 ncoeff,
                 block_seconds,
@@ -331,12 +347,12 @@ fn step(state: State, line: &Line<'_>) -> Result<State, BrokenRule>
             Ok(State::NameGroup { shape })
         }
         State::NameGroup { shape } => {
-            group(b"1040", 1040, line)?;
+            check_group(b"1040", 1040, line)?;
             Ok(State::NameCount { shape })
         }
         State::NameCount { shape } => {
-            let count = name_count(line)?;
-            Ok(to_names(shape, count, count, 0, None))
+            let count = read_name_count(line)?;
+            Ok(state_before_names(shape, count, count, 0, None))
         }
         State::Names {
             shape,
@@ -349,9 +365,10 @@ fn step(state: State, line: &Line<'_>) -> Result<State, BrokenRule>
     }
 }
 
-// Returns the state after a line, in any state but that of a whole header. A fault that was met stays.
+// Returns the state after a line, in any state but that of a whole header. A line that breaks a rule gives a state
+// that keeps its fault, and a fault that was met before stays.
 #[tactic(auto, unfolding(crate::specs::Reader::says))]
-fn next(state: State, line: &Line<'_>) -> State
+fn next_state(state: State, line: &Line<'_>) -> State
     requires open { IsNotWhole state }
     requires fits { Fits state }
     ensures says { HasRead state line.now result }
@@ -361,15 +378,16 @@ fn next(state: State, line: &Line<'_>) -> State
     if let State::Refused(fault) = state {
         return State::Refused(fault);
     }
-    match step(state, line) {
+    match step_open_state(state, line) {
         Ok(state) => state,
         Err(broken) => State::Refused(broken.at_line(line.number())),
     }
 }
 
-// Returns what the reader answers in this state: it wants more lines, is done, or met a fault.
+// Returns what the reader answers in this state: that it wants more lines, that its header is whole, or the fault
+// that it met.
 #[tactic(auto, unfolding(crate::specs::Reader::says))]
-fn answer_of(state: State) -> Result<Step, HeaderError>
+fn answer_of_state(state: State) -> Result<Step, HeaderError>
     requires { Fits state }
     ensures answer { result ≡ answer (says 0 state []) }
     ensures more { result ≡ Ok steps.More → IsOpen state }
@@ -385,8 +403,9 @@ fn answer_of(state: State) -> Result<Step, HeaderError>
     }
 }
 
-// Makes the header of `count` columns. The only error is out of memory.
-fn whole(
+// Makes the header of these facts and the first `count` columns, which it copies into a vector. The only error is out
+// of memory.
+fn header_of_columns(
     alloc: Global,
     facts: Facts,
     count: usize,
@@ -404,7 +423,8 @@ fn whole(
     })
 }
 
-// Returns the header that a state has read where the lines end. A header that is not whole is a fault at `line`.
+// Returns the header that a state has read when the lines end. Errors: the fault that was met, or that a header is
+// not whole, at this line; or out of memory.
 #[tactic(auto, unfolding(crate::specs::Reader::says))]
 fn header_at_end(alloc: Global, state: State, line: u32) -> Result<Header, HeaderError>
     ensures end { Ends line (says 0 state []) result }
@@ -415,7 +435,7 @@ fn header_at_end(alloc: Global, state: State, line: u32) -> Result<Header, Heade
             facts,
             count,
             columns,
-        } => whole(alloc, facts, count, columns),
+        } => header_of_columns(alloc, facts, count, columns),
         State::Refused(fault) => Err(HeaderError::Fault(fault)),
         _ => Err(HeaderError::Fault(BrokenRule::new(ENDED, 0).at_line(line))),
     }
@@ -439,7 +459,7 @@ impl Model for HeaderReader {
 }
 
 impl HeaderReader {
-    /// Makes a reader that waits for the first line.
+    /// Makes a reader that waits for the first line of a header.
     pub fn new() -> Self
         ensures header { IsAt result header }
         ensures open { IsOpen result × IsNotWhole result }
@@ -449,9 +469,10 @@ impl HeaderReader {
         }
     }
 
-    /// Reads the next line. `Done` comes at the line that ends the header. `Fault` comes at the first line that
-    /// breaks a rule, and at every line after it. A line takes no memory, so `Memory` never comes here.
-    pub fn line(&mut self, line: &Line<'_>) -> Result<Step, HeaderError>
+    /// Reads the next line. Returns `Done` at the line that ends the header, and `More` before it. Errors: `Fault` at
+    /// the first line that breaks a rule, and at every line after it. A line does not allocate, so that `Memory`
+    /// never comes here.
+    pub fn read_line(&mut self, line: &Line<'_>) -> Result<Step, HeaderError>
         requires { IsNotWhole self.old }
         ensures says { HasRead self.old line.now self.new }
         ensures answer { result ≡ answer (says 0 self.new []) }
@@ -462,13 +483,14 @@ impl HeaderReader {
         ensures kept { GivesAgain self.old self.new result }
         ensures no_memory_is_wanted { result ≡ Err errors.Memory → ⊥ }
     {
-        self.state = next(self.state, line);
-        answer_of(self.state)
+        self.state = next_state(self.state, line);
+        answer_of_state(self.state)
     }
 
     /// Ends the reading and returns the header. `line` is one more than the number of the last line of the last file.
-    /// `Fault` is the kept refusal. Where the header is not whole, it is fault 22, that the text has ended, at
-    /// `line`. Where the reader was made by `new` and was given these lines, the header meets the rules of a header.
+    /// Errors: the fault that was met before; or, if the header is not whole, fault 22 at `line`, that the text has
+    /// ended; or out of memory. The clause `rules` says when the header meets the rules: if the reader was made by
+    /// `new` and was given these lines.
     pub fn end(self, alloc: Global, line: u32) -> Result<Header, HeaderError>
         ensures end { Ends line (says 0 self []) result }
         ensures memory { result ≡ Err errors.Memory → IsWhole self }

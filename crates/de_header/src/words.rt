@@ -11,8 +11,9 @@ use spec_faults::{
 };
 use spec_files::{BrokenRule, MAX_CONSTANTS};
 
-// Tells whether the word at a place of a line is this text. A place past the words has none.
-fn is_word(line: &Line<'_>, i: usize, text: &[u8]) -> bool
+// Tells whether the word at a place of a line, counted from 0, is this text. It is not if the line ends before that
+// place.
+fn is_word_at(line: &Line<'_>, i: usize, text: &[u8]) -> bool
     ensures { result ≡ is_word (slice_get line.now.tokens i) text.now }
 {
     match line.token(i) {
@@ -21,12 +22,13 @@ fn is_word(line: &Line<'_>, i: usize, text: &[u8]) -> bool
     }
 }
 
-// Reads NCOEFF, the numbers of a block, from the first line, or returns the rule that the line breaks.
-pub(crate) fn first_line(line: &Line<'_>) -> Result<u32, BrokenRule>
+// Reads NCOEFF, the count of a block's numbers, from the first line of a header: `KSIZE= n NCOEFF= n`. Errors: the
+// rule that any other line breaks, or that of a count out of range.
+pub(crate) fn read_ncoeff(line: &Line<'_>) -> Result<u32, BrokenRule>
     ensures { result ≡ first_line line.now.tokens }
 {
-    if line.count() == 4 && is_word(line, 0, b"KSIZE=") && is_word(line, 2, b"NCOEFF=") {
-        match line.whole(3) {
+    if line.count() == 4 && is_word_at(line, 0, b"KSIZE=") && is_word_at(line, 2, b"NCOEFF=") {
+        match line.whole_number_at(3) {
             None => Err(BrokenRule::new(FIRST_LINE, 0)),
             Some(n) if n < MIN_NUMBERS || MAX_NUMBERS < n => Err(BrokenRule::new(LIMIT, 0)),
             Some(n) => Ok(n),
@@ -36,26 +38,28 @@ pub(crate) fn first_line(line: &Line<'_>) -> Result<u32, BrokenRule>
     }
 }
 
-/// Checks that a line is `GROUP` and this name. `number` is the detail of the rule that it breaks else.
-pub(crate) fn group(name: &[u8], number: u16, line: &Line<'_>) -> Result<(), BrokenRule>
+/// Checks that a line is the word `GROUP` and this name. Errors: the rule that any other line breaks, with the
+/// group's number as its detail.
+pub(crate) fn check_group(name: &[u8], number: u16, line: &Line<'_>) -> Result<(), BrokenRule>
     ensures { result ≡ group name.now number line.now.tokens }
 {
-    if line.count() == 2 && is_word(line, 0, b"GROUP") && is_word(line, 1, name) {
+    if line.count() == 2 && is_word_at(line, 0, b"GROUP") && is_word_at(line, 1, name) {
         Ok(())
     } else {
         Err(BrokenRule::new(GROUP_MISSING, number))
     }
 }
 
-// Tells whether a line starts with the word `GROUP`.
-pub(crate) fn is_group(line: &Line<'_>) -> bool
+// Tells whether the first word of a line is `GROUP`.
+pub(crate) fn starts_with_group(line: &Line<'_>) -> bool
     ensures { result ≡ is_word (slice_get line.now.tokens 0) (codes "GROUP") }
 {
-    is_word(line, 0, b"GROUP")
+    is_word_at(line, 0, b"GROUP")
 }
 
-// Reads the decimal at a place of a line. A rule is broken where no word stands there, or one that is no decimal.
-fn decimal_at(line: &Line<'_>, i: usize) -> Result<Decimal, BrokenRule>
+// Reads the decimal at a place of a line, counted from 0. Errors: the rule that is broken if no word stands there, or
+// one that is no decimal.
+fn read_decimal_at(line: &Line<'_>, i: usize) -> Result<Decimal, BrokenRule>
     ensures { result ≡ decimal_at (slice_get line.now.tokens i) }
 {
     match line.token(i) {
@@ -67,51 +71,55 @@ fn decimal_at(line: &Line<'_>, i: usize) -> Result<Decimal, BrokenRule>
     }
 }
 
-// Reads the length of a block in seconds from the line of the span. Both Julian dates before it are checked too.
-pub(crate) fn span(line: &Line<'_>) -> Result<u32, BrokenRule>
+// Reads the length of a block, in seconds, from the line of two Julian dates and the days of a block. Errors: the
+// first rule that one of the three breaks, from left to right.
+pub(crate) fn read_block_length(line: &Line<'_>) -> Result<u32, BrokenRule>
     ensures { result ≡ span line.now.tokens }
 {
-    check_julian_date(decimal_at(line, 0)?)?;
-    check_julian_date(decimal_at(line, 1)?)?;
-    block_length(decimal_at(line, 2)?)
+    check_julian_date(read_decimal_at(line, 0)?)?;
+    check_julian_date(read_decimal_at(line, 1)?)?;
+    block_length(read_decimal_at(line, 2)?)
 }
 
-/// Reads the count of names, which is at most 2,000, or returns the rule that the line breaks.
-pub(crate) fn name_count(line: &Line<'_>) -> Result<u32, BrokenRule>
+/// Reads the count of names from a line, at most 2,000. Errors: the rule that is broken by a word that is no whole
+/// number, or by a greater count.
+pub(crate) fn read_name_count(line: &Line<'_>) -> Result<u32, BrokenRule>
     ensures value { result ≡ name_count line.now.tokens }
     ensures few { IfOk result (λ n. n ≤ MAX_CONSTANTS) }
 {
-    match line.whole(0) {
+    match line.whole_number_at(0) {
         None => Err(BrokenRule::new(HEADER_NUMBER, 1)),
         Some(n) if MAX_CONSTANTS < n => Err(BrokenRule::new(LIMIT, 0)),
         Some(n) => Ok(n),
     }
 }
 
-// Returns the place of the first `EMRAT` among the first `n` words of a line, counted from `start`, or none.
+// Returns the place of the first `EMRAT` among the first `n` words of a line, whose words are counted from `start`.
+// None if it is not among them.
 pub(crate) fn find_emrat(line: &Line<'_>, n: u32, start: u32) -> Option<u32>
     requires few { start + n ≤ MAX_CONSTANTS }
     requires there { n ≤ length line.now.tokens }
     ensures { result ≡ emrat_from start (take n line.now.tokens) }
 {
     for i in 0..n {
-        if is_word(line, i as usize, b"EMRAT") {
+        if is_word_at(line, i as usize, b"EMRAT") {
             return Some(start + i);
         }
     }
     None
 }
 
-// Reads the count of values, which is that of the names, and returns the place of `EMRAT`. A rule is broken where the
-// counts differ or no name is `EMRAT`.
-pub(crate) fn value_count(
+// Checks that the count of values on this line is `names`, the count of names, and returns `emrat`, the place of
+// `EMRAT` among the names. Errors: the rule that is broken by a count that differs, then that of an `EMRAT` that was
+// not found.
+pub(crate) fn read_emrat_place(
     names: u32,
     emrat: Option<u32>,
     line: &Line<'_>,
 ) -> Result<u32, BrokenRule>
     ensures { result ≡ value_count names emrat line.now.tokens }
 {
-    match line.whole(0) {
+    match line.whole_number_at(0) {
         None => Err(BrokenRule::new(HEADER_NUMBER, 1)),
         Some(n) if n != names => Err(BrokenRule::new(COUNT_MISMATCH, 0)),
         Some(_) => match emrat {
@@ -121,8 +129,8 @@ pub(crate) fn value_count(
     }
 }
 
-// Returns a mass ratio of Earth and Moon that is within its bounds, else the rule that it breaks.
-fn mass_ratio_of(d: Decimal) -> Result<Decimal, BrokenRule>
+// Returns this mass ratio of Earth and Moon if it is from 1 to 1,000. Errors: the rule that any other number breaks.
+fn check_mass_ratio(d: Decimal) -> Result<Decimal, BrokenRule>
     ensures { result ≡ mass_ratio_of d }
 {
     if is_mass_ratio(d) {
@@ -132,12 +140,13 @@ fn mass_ratio_of(d: Decimal) -> Result<Decimal, BrokenRule>
     }
 }
 
-// Reads the value of `EMRAT`, the word at this place of a line, or returns the rule that it breaks.
-pub(crate) fn mass_ratio(line: &Line<'_>, place: u32) -> Result<Decimal, BrokenRule>
+// Reads the value of `EMRAT`, the mass ratio of Earth and Moon, from the word at this place of a line. Errors: the
+// rule that is broken by a word that is no decimal, or by one that is not from 1 to 1,000.
+pub(crate) fn read_mass_ratio(line: &Line<'_>, place: u32) -> Result<Decimal, BrokenRule>
     requires { place < length line.now.tokens }
     ensures { (word : List ℕ) → slice_get line.now.tokens place ≡ Some word
         → result ≡ mass_ratio word }
 {
-    let d = decimal_at(line, place as usize)?;
-    mass_ratio_of(d)
+    let d = read_decimal_at(line, place as usize)?;
+    check_mass_ratio(d)
 }

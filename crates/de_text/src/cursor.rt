@@ -11,7 +11,7 @@ ghost use Rattle.de_text.specs.declared.cursor.LineStep.TheVariants as steps;
 use crate::decimal::read_whole;
 use crate::fields::cut_triple;
 use crate::lines::{cut_line, line_count};
-use crate::tokens::{count, is_blank, token};
+use crate::tokens::{is_blank, token_at, token_count};
 use crate::triple::Triple;
 use crate::words::Words;
 use spec_text::{MAX_LINE_BYTES, MAX_TEXT_BYTES};
@@ -39,30 +39,31 @@ impl<'a> Model for Line<'a> {
 }
 
 impl<'a> Line<'a> {
-    /// The line's number in its text, counted from 1; blank lines count too.
+    /// Returns the line's number in its text, counted from 1. Blank lines count too.
     pub fn number(&self) -> u32
         ensures { result ≡ self.now.number }
     {
         self.number
     }
 
-    /// How many tokens the line has, at least one.
+    /// Returns how many tokens the line has, at least one.
     pub fn count(&self) -> usize
         ensures count { result ≡ length self.now.tokens }
         ensures some { 0 < result }
     {
-        count(self.bytes)
+        token_count(self.bytes)
     }
 
-    /// The token at a place, counted from 0, or none at the count and past it.
+    /// Returns the token at a place of the line, counted from 0. None if the place is the count of tokens or past it.
     pub fn token(&self, i: usize) -> Option<&[u8]>
         ensures { option_copied result ≡ slice_get self.now.tokens i }
     {
-        token(self.bytes, i)
+        token_at(self.bytes, i)
     }
 
-    /// The whole number that the token at a place is, counted from 0, if one stands there.
-    pub fn whole(&self, i: usize) -> Option<u32>
+    /// Returns the whole number that the token at a place is, counted from 0. None if no token stands there, or if it
+    /// is not 1 to 9 digits.
+    pub fn whole_number_at(&self, i: usize) -> Option<u32>
         ensures { result ≡ whole_at (slice_get self.now.tokens i) }
     {
         match self.token(i) {
@@ -71,7 +72,8 @@ impl<'a> Line<'a> {
         }
     }
 
-    /// The line's three numbers, where they are its only tokens and were read with it by `plain_line`.
+    /// Returns the line's three numbers, if they are its only tokens and `triple_line` read them. None for any other
+    /// line; it says nothing of the tokens.
     #[inline(always)]
     pub fn triple(&self) -> Option<Triple>
         ensures { IfSome result (λ t. AreTriple self.now.tokens t) }
@@ -79,9 +81,10 @@ impl<'a> Line<'a> {
         self.triple
     }
 
-    /// The same line, of which no number was read.
+    /// Returns a copy of the line without the numbers that `triple_line` read with it. Rare paths take such a copy by
+    /// reference, so that the line itself need not stand in memory.
     #[inline(always)]
-    pub fn unread(&self) -> Line<'a>
+    pub fn without_triple(&self) -> Line<'a>
         ensures { result ≡ self.now }
     {
         Line {
@@ -91,7 +94,7 @@ impl<'a> Line<'a> {
         }
     }
 
-    /// A cursor over the line's tokens, from left to right.
+    /// Returns a cursor over the line's tokens, from left to right.
     pub fn words(&self) -> Words<'a>
         ensures { result ≡ self.now.tokens }
     {
@@ -133,7 +136,8 @@ impl<'a> Model for Tokens<'a> {
     ghost invariant = { λ t. t.passed + length t.rest.now ≤ MAX_TEXT_BYTES };
 }
 
-// The next step in a text after this many lines; the text after it, and how many lines stand before that.
+// Returns what comes next in a text that has `before` lines before it: a line with tokens, a line that is too long,
+// or the end. The text that is left comes with it, and how many lines stand before that.
 fn next_line<'a>(text: &'a [u8], before: u32) -> (LineStep<'a>, &'a [u8], u32)
     requires { before + length text.now ≤ MAX_TEXT_BYTES }
     ensures step { result.0 ≡ step_of (counted_after before text.now) }
@@ -164,9 +168,10 @@ fn next_line<'a>(text: &'a [u8], before: u32) -> (LineStep<'a>, &'a [u8], u32)
     (LineStep::End, rest, passed)
 }
 
-// The next line, where it has three numbers as JPL writes them, with the text after it and its number.
+// Returns the first line of a text that has `before` lines before it, if it is three numbers as JPL writes them. The
+// text after it comes with it, and its number. None for any other line.
 #[inline(always)]
-fn next_triple<'a>(text: &'a [u8], before: u32) -> Option<(Line<'a>, &'a [u8], u32)>
+fn next_triple_line<'a>(text: &'a [u8], before: u32) -> Option<(Line<'a>, &'a [u8], u32)>
     requires { before + length text.now ≤ MAX_TEXT_BYTES }
     ensures step { IfSome result (λ r. step_of (counted_after before text.now) ≡ steps.Line r.0) }
     ensures left { IfSome result (λ r. counted_after r.2 r.1.now
@@ -186,7 +191,7 @@ fn next_triple<'a>(text: &'a [u8], before: u32) -> Option<(Line<'a>, &'a [u8], u
 }
 
 impl<'a> Tokens<'a> {
-    /// A cursor at the front of a text of at most 268,435,456 bytes.
+    /// Makes a cursor at the front of a text of at most 268,435,456 bytes.
     pub fn new(bytes: &'a [u8]) -> Self
         requires { length bytes.now ≤ MAX_TEXT_BYTES }
         ensures left { result.left ≡ text_lines bytes.now }
@@ -198,7 +203,8 @@ impl<'a> Tokens<'a> {
         }
     }
 
-    /// The next line that is not blank, in order. A line that is too long is given again by every later call.
+    /// Returns the next line that is not blank, and passes it, or `End` if only blank lines are left. A line that is
+    /// too long is not passed: every later call returns it again.
     pub fn line(&mut self) -> LineStep<'a>
         ensures step { result ≡ step_of self.old.left }
         ensures left { self.new.left ≡ lines_after self.old.left }
@@ -210,21 +216,23 @@ impl<'a> Tokens<'a> {
         step
     }
 
-    /// The next line with its numbers, where it has three as JPL writes those of blocks. Elsewhere nothing is passed.
+    /// Returns the next line with its numbers and passes it, if it is three numbers as JPL writes those of blocks.
+    /// None for any other line, which is not passed.
     #[inline(always)]
-    pub fn plain_line(&mut self) -> Option<Line<'a>>
+    pub fn triple_line(&mut self) -> Option<Line<'a>>
         ensures step { IfSome result (λ line. step_of self.old.left ≡ steps.Line line) }
         ensures left { IfSome result (λ line. self.new.left ≡ lines_after self.old.left) }
         ensures other { IfNone result (self.new ≡ self.old) }
         ensures end_line { self.new.end_line ≡ self.old.end_line }
     {
-        let (line, rest, passed) = next_triple(self.rest, self.passed)?;
+        let (line, rest, passed) = next_triple_line(self.rest, self.passed)?;
         self.rest = rest;
         self.passed = passed;
         Some(line)
     }
 
-    /// The number of lines of the whole text plus 1, at every time: where a text ends that ends too early.
+    /// Returns the number of lines of the whole text plus 1, wherever the cursor stands. A fault names this line if
+    /// the text ends too early.
     pub fn end_line(&self) -> u32
         ensures { result ≡ self.now.end_line }
     {

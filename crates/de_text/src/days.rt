@@ -1,4 +1,4 @@
-// Sizes of decimals, and numbers of days in seconds. Where a size is past the greatest number of 128 bits, it counts as
+// Magnitudes of decimals, and numbers of days in seconds. A magnitude past the greatest number of 128 bits counts as
 // that number, which is past every bound.
 ghost use Rattle.std.specs.Prelude.{◌≡◌, ◌≤◌, ◌<◌, ◌*◌, ◌^◌, ◌-◌, IfOk, min, unsigned_abs};
 ghost use borrow.Author.Differences.{up, down};
@@ -13,8 +13,9 @@ const DAY: u128 = DAY_SECONDS as u128;
 // The greatest exponent of a power of ten of 128 bits.
 const MAX_POWER: u32 = 38;
 
+// Returns `10^exp`, or the greatest number of 128 bits if the power is past that.
 #[tactic(auto, using(crate::proofs::Sizes::ten_fits, crate::proofs::Sizes::great_power))]
-fn capped_power(exp: u32) -> u128
+fn capped_power_of_ten(exp: u32) -> u128
     ensures { result ≡ min (10 ^ exp) (2 ^ 128 - 1) }
 {
     if exp > MAX_POWER {
@@ -24,13 +25,15 @@ fn capped_power(exp: u32) -> u128
     }
 }
 
-fn exponent_above(d: Decimal) -> u32
+// Returns the exponent of ten of a decimal if it is above 0, else 0.
+fn positive_exponent(d: Decimal) -> u32
     ensures { result ≡ up d.exp }
 {
     if d.exp < 0 { 0 } else { d.exp as u32 }
 }
 
-fn exponent_below(d: Decimal) -> u32
+// Returns the magnitude of a decimal's exponent of ten if it is below 0, else 0.
+fn negative_exponent(d: Decimal) -> u32
     ensures { result ≡ down d.exp }
 {
     if d.exp < 0 {
@@ -40,30 +43,33 @@ fn exponent_below(d: Decimal) -> u32
     }
 }
 
-/// The size of a decimal is this number over that of `size_under`, where neither is past 128 bits.
+/// Returns the numerator of a decimal's magnitude: its digits, times its power of ten if the exponent is above 0. A
+/// product past 128 bits counts as the greatest number of 128 bits.
 #[tactic(auto, using(crate::proofs::Sizes::capped_size))]
-pub fn size_over(d: Decimal) -> u128
+pub fn magnitude_numerator(d: Decimal) -> u128
     ensures size { result ≡ min (size_over d) (2 ^ 128 - 1) }
     ensures mant { unsigned_abs d.mant ≤ 2 ^ 63 }
 {
-    u128::from(d.mant.unsigned_abs()).saturating_mul(capped_power(exponent_above(d)))
+    u128::from(d.mant.unsigned_abs()).saturating_mul(capped_power_of_ten(positive_exponent(d)))
 }
 
-/// The power of ten under `size_over`, or the greatest number of 128 bits where it is past that.
+/// Returns the denominator of a decimal's magnitude: the power of ten if the exponent is below 0, else 1. A power
+/// past 128 bits counts as the greatest number of 128 bits.
 #[tactic(auto, using(crate::proofs::Sizes::power_is_some))]
-pub fn size_under(d: Decimal) -> u128
+pub fn magnitude_denominator(d: Decimal) -> u128
     ensures size { result ≡ min (size_under d) (2 ^ 128 - 1) }
     ensures some { 0 < result }
 {
-    capped_power(exponent_below(d))
+    capped_power_of_ten(negative_exponent(d))
 }
 
-// So many days, whatever their sign, in seconds, if these are a whole number.
+// Returns the seconds of a number of days, whose sign is left out. None if they are not a whole number. Seconds past
+// 128 bits count as the greatest number of 128 bits.
 fn seconds_of_days(d: Decimal) -> Option<u128>
     ensures { result ≡ capped (seconds_of_days d) }
 {
-    let days = size_over(d).saturating_mul(DAY);
-    let unit = size_under(d);
+    let days = magnitude_numerator(d).saturating_mul(DAY);
+    let unit = magnitude_denominator(d);
     if days % unit == 0 {
         Some(days / unit)
     } else {
@@ -71,8 +77,9 @@ fn seconds_of_days(d: Decimal) -> Option<u128>
     }
 }
 
-/// The seconds of a number of days. Errors: `NotWholeSecond` first, then `OutOfRange` for days below 0 or past `most`.
-pub fn seconds_within(most: u64, days: Decimal) -> Result<u64, DaysFault>
+/// Returns the seconds of a number of days from 0 to `most`. Errors: `NotWholeSecond` first, for days that end within
+/// a second; then `OutOfRange`, for days below 0 or past `most`.
+pub fn seconds_of_days_upto(most: u64, days: Decimal) -> Result<u64, DaysFault>
     requires { most ≤ LAST_JULIAN_DAY }
     ensures value { result ≡ seconds_within most days }
     ensures few { IfOk result (λ seconds. seconds ≤ DAY_SECONDS * most) }
@@ -86,10 +93,11 @@ pub fn seconds_within(most: u64, days: Decimal) -> Result<u64, DaysFault>
     }
 }
 
-/// The seconds from Julian date 0 to a date, which is from 0 to 5,000,000 and a whole number of seconds.
+/// Returns the seconds from Julian date 0 to a date from 0 to 5,000,000. Errors: `NotWholeSecond` first, for a date
+/// within a second; then `OutOfRange`, for any other date.
 pub fn seconds_of_julian_date(date: Decimal) -> Result<u64, DaysFault>
     ensures value { result ≡ seconds_of_julian_date date }
     ensures few { IfOk result (λ seconds. seconds ≤ DAY_SECONDS * LAST_JULIAN_DAY) }
 {
-    seconds_within(LAST_JULIAN_DAY, date)
+    seconds_of_days_upto(LAST_JULIAN_DAY, date)
 }

@@ -3,7 +3,7 @@ ghost use Rattle.std.specs.Prelude.{◌≡◌, ◌≤◌, ◌+◌, ◌*◌, ◌^
 ghost use Rattle.spec_text.specs.Decimals.{AreDigits, value, value_after};
 ghost use Rattle.spec_text.specs.Splitting.{digits_at};
 
-use crate::eights::{take_eight, take_sixteen};
+use crate::eights::{take_eight_digits, take_sixteen_digits};
 
 // Ten to the number of digits that a decimal may have. A greater number counts as this one.
 pub(crate) const CAP: u64 = 1_000_000_000_000_000_000;
@@ -17,7 +17,7 @@ pub(crate) struct Digits<'a> {
     pub rest: &'a [u8],
 }
 
-// How many digits stand at the front.
+// Returns how many digits stand at the front of a text, before its first byte that is none.
 #[tactic(auto, using(crate::proofs::Fronts::digits_more, crate::proofs::Fronts::digits_end))]
 fn digit_count(text: &[u8]) -> usize
     ensures count { result ≡ length (digits_at text.now).0 }
@@ -32,7 +32,8 @@ fn digit_count(text: &[u8]) -> usize
     text.len()
 }
 
-// The digits at the front. Once their number has reached the cap, further digits are counted alone.
+// Reads the digits at the front of a text, one by one, as if they followed those of the number `start`. A number past
+// 10^18 counts as 10^18, from where on digits are only counted.
 #[tactic(auto, using(crate::proofs::Fronts::digits_more, crate::proofs::Fronts::digits_end, crate::proofs::Fronts::value_step))]
 pub(crate) fn take_digits(start: u64, text: &[u8]) -> Digits<'_>
     requires { start ≤ 10 ^ 18 }
@@ -66,10 +67,10 @@ pub(crate) fn take_digits(start: u64, text: &[u8]) -> Digits<'_>
     }
 }
 
-// Whether no digit stands at a place.
+// Tells whether no digit stands at this place of a text. That holds too if the text ends there.
 #[tactic(auto, using(crate::proofs::Fronts::digits_end, crate::proofs::Fronts::digits_none))]
 #[inline(always)]
-fn is_end(text: &[u8], at: usize) -> bool
+fn has_no_digit_at(text: &[u8], at: usize) -> bool
     requires { at ≤ length text.now }
     ensures { IsTrue result → digits_at (drop at text.now) ≡ ([], drop at text.now) }
 {
@@ -80,9 +81,10 @@ fn is_end(text: &[u8], at: usize) -> bool
     }
 }
 
-// The digits at the front, where there are two.
+// Reads the digits at the front of a text, as if they followed those of the number `start`, if there are exactly two.
+// None if there are more or fewer.
 #[inline(always)]
-pub(crate) fn two_digits(start: u64, text: &[u8]) -> Option<Digits<'_>>
+pub(crate) fn take_two_digits(start: u64, text: &[u8]) -> Option<Digits<'_>>
     requires { start < 10 ^ 16 }
     ensures number { IfSome result (λ d. d.number
         ≡ min (value_after start (digits_at text.now).0) (10 ^ 18)) }
@@ -94,7 +96,7 @@ pub(crate) fn two_digits(start: u64, text: &[u8]) -> Option<Digits<'_>>
     if text.len() < 2 || !text[0].is_ascii_digit() || !text[1].is_ascii_digit() {
         return None;
     }
-    if !is_end(text, 2) {
+    if !has_no_digit_at(text, 2) {
         return None;
     }
     let number = 10 * start + u64::from(text[0] - b'0');
@@ -105,16 +107,17 @@ pub(crate) fn two_digits(start: u64, text: &[u8]) -> Option<Digits<'_>>
     })
 }
 
-// The digits at the front, where there are eighteen.
+// Reads the digits at the front of a text, if there are exactly eighteen: sixteen at once, and the last two. None if
+// there are more or fewer.
 #[inline(always)]
-pub(crate) fn eighteen_digits(text: &[u8]) -> Option<Digits<'_>>
+pub(crate) fn take_eighteen_digits(text: &[u8]) -> Option<Digits<'_>>
     ensures number { IfSome result (λ d. d.number ≡ min (value (digits_at text.now).0) (10 ^ 18)) }
     ensures few { IfSome result (λ d. d.number < 10 ^ 18) }
     ensures count { IfSome result (λ d. d.count ≡ length (digits_at text.now).0) }
     ensures rest { IfSome result (λ d. d.rest.now ≡ (digits_at text.now).1) }
 {
-    let (number, rest) = take_sixteen(text)?;
-    let last = two_digits(number, rest)?;
+    let (number, rest) = take_sixteen_digits(text)?;
+    let last = take_two_digits(number, rest)?;
     Some(Digits {
         number: last.number,
         count: 16 + last.count,
@@ -122,7 +125,8 @@ pub(crate) fn eighteen_digits(text: &[u8]) -> Option<Digits<'_>>
     })
 }
 
-// The digits at the front, of which there may be many: eight at a time, and the last ones one by one.
+// Reads the digits at the front of a text, as if they followed those of the number `start`: eight at a time, and the
+// last ones one by one. A number past 10^18 counts as 10^18.
 pub(crate) fn take_many_digits(start: u64, text: &[u8]) -> Digits<'_>
     requires { start ≤ 10 ^ 18 }
     ensures number { result.number ≡ min (value_after start (digits_at text.now).0) (10 ^ 18) }
@@ -132,7 +136,7 @@ pub(crate) fn take_many_digits(start: u64, text: &[u8]) -> Digits<'_>
     let mut number = start;
     let mut rest = text;
     let mut count = 0;
-    while let Some((longer, after)) = take_eight(number, rest) {
+    while let Some((longer, after)) = take_eight_digits(number, rest) {
         number = longer;
         rest = after;
         count += 8;
@@ -145,9 +149,10 @@ pub(crate) fn take_many_digits(start: u64, text: &[u8]) -> Digits<'_>
     }
 }
 
-// The number that the digits write, at most `CAP`.
+// Returns the number that the digits write, as if they followed those of the number `start`. A number past 10^18
+// counts as 10^18.
 #[tactic(auto, using(crate::proofs::Values::digit_at, crate::proofs::Values::capped_more))]
-pub(crate) fn capped(start: u64, digits: &[u8]) -> u64
+pub(crate) fn capped_number(start: u64, digits: &[u8]) -> u64
     requires cap { start ≤ 10 ^ 18 }
     requires digits { AreDigits digits.now }
     ensures { result ≡ min (value_after start digits.now) (10 ^ 18) }

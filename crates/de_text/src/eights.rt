@@ -9,7 +9,7 @@ use std::simd::prelude::*;
 // How many digits are taken at a time.
 const EIGHT: usize = 8;
 
-// How many are taken where as many stand.
+// How many digits are taken at once of a number that has as many.
 const SIXTEEN: usize = 16;
 
 // Ten to the number of digits that are taken at a time.
@@ -21,7 +21,7 @@ const ROOM: u64 = 10_000_000_000;
 // The word of eight bytes that are each a zero.
 const ZEROS: u64 = 0x3030_3030_3030_3030;
 
-// Whether the first eight bytes are digits.
+// Tells whether the first eight bytes of a text are digits, by two comparisons of all eight at once.
 #[inline(always)]
 fn are_eight_digits(text: &[u8]) -> bool
     requires { EIGHT ≤ length text.now }
@@ -33,9 +33,9 @@ fn are_eight_digits(text: &[u8]) -> bool
     below == 0 && above == 0
 }
 
-// The word of the first eight bytes, of which the first is the lowest.
+// Returns the first eight bytes of a text as one number of 64 bits, of which the first byte is the lowest.
 #[inline(always)]
-fn first_word(text: &[u8]) -> u64
+fn eight_bytes_as_number(text: &[u8]) -> u64
     requires { EIGHT ≤ length text.now }
     ensures { result ≡ number_l 256 (take 8 text.now) }
 {
@@ -43,17 +43,17 @@ fn first_word(text: &[u8]) -> u64
     words[0]
 }
 
-// The number that the first eight bytes write, which are digits. Each byte is joined with the next to a number below 100,
-// of which every second counts, and each of these with the next to a number below 10,000, of which again every second
-// counts.
+// Returns the number that the first eight bytes of a text write, which are digits. Each byte is joined with the next
+// to a number below 100, and these two by two to numbers below 10,000. Each step makes sums of overlapping pairs too,
+// so that of its numbers every second one counts.
 #[inline(always)]
-fn eight_digits(text: &[u8]) -> u64
+fn value_of_eight_digits(text: &[u8]) -> u64
     requires long { EIGHT ≤ length text.now }
     requires digits { AreDigits (take 8 text.now) }
     ensures value { result ≡ value (take 8 text.now) }
     ensures bound { result < 10 ^ 8 }
 {
-    let digits = first_word(text) - ZEROS;
+    let digits = eight_bytes_as_number(text) - ZEROS;
     let pairs = 10 * digits + digits / (1 << 8);
     let first = pairs % (1 << 8);
     let second = pairs / (1 << 16) % (1 << 8);
@@ -64,9 +64,10 @@ fn eight_digits(text: &[u8]) -> u64
     10_000 * (fours % (1 << 16)) + fours / (1 << 32) % (1 << 16)
 }
 
-// The number that eight digits at the front write after an earlier one, and what follows them.
+// Returns the number that eight digits at the front of a text write as if they followed those of `before`, and the
+// text after them.
 #[inline(always)]
-fn after_eight(before: u64, text: &[u8]) -> (u64, &[u8])
+fn append_eight_digits(before: u64, text: &[u8]) -> (u64, &[u8])
     requires room { before < ROOM }
     requires long { EIGHT ≤ length text.now }
     requires digits { AreDigits (take 8 text.now) }
@@ -77,14 +78,15 @@ fn after_eight(before: u64, text: &[u8]) -> (u64, &[u8])
     ensures next { result.1.now ≡ drop 8 text.now }
     ensures bound { result.0 < 10 ^ 8 * (before + 1) }
 {
-    let number = EIGHT_DIGITS * before + eight_digits(text);
+    let number = EIGHT_DIGITS * before + value_of_eight_digits(text);
     (number, &text[EIGHT..])
 }
 
-// The number that eight digits at the front write after an earlier one, and what follows them. There is none where other
-// bytes stand there, or where the earlier number is too great.
+// Returns the number that eight digits at the front of a text write as if they followed those of `before`, and the
+// text after them. None if other bytes stand there, or if `before` is 10^10 or more, where eight digits more would be
+// past 18.
 #[inline(always)]
-pub(crate) fn take_eight(before: u64, text: &[u8]) -> Option<(u64, &[u8])>
+pub(crate) fn take_eight_digits(before: u64, text: &[u8]) -> Option<(u64, &[u8])>
     ensures number { IfSome result (λ p. value_after p.0 (digits_at p.1.now).0
         ≡ value_after before (digits_at text.now).0) }
     ensures count { IfSome result (λ p. length (digits_at text.now).0
@@ -96,10 +98,10 @@ pub(crate) fn take_eight(before: u64, text: &[u8]) -> Option<(u64, &[u8])>
     if before >= ROOM || text.len() < EIGHT || !are_eight_digits(text) {
         return None;
     }
-    Some(after_eight(before, text))
+    Some(append_eight_digits(before, text))
 }
 
-// Whether the first sixteen bytes are digits.
+// Tells whether the first sixteen bytes of a text are digits, by two comparisons of all sixteen at once.
 #[inline(always)]
 fn are_sixteen_digits(text: &[u8]) -> bool
     requires { SIXTEEN ≤ length text.now }
@@ -111,10 +113,10 @@ fn are_sixteen_digits(text: &[u8]) -> bool
     below == 0 && above == 0
 }
 
-// The number that the first sixteen bytes write, which are digits. Each four of them are joined to a number below 10,000,
-// and each two of these, of which the second is brought beside the first, to one below 10^8.
+// Returns the number that the first sixteen bytes of a text write, which are digits. Four bytes at a time are joined
+// to a number below 10,000, and two of these to one below 10^8.
 #[inline(always)]
-fn sixteen_digits(text: &[u8]) -> u64
+fn value_of_sixteen_digits(text: &[u8]) -> u64
     requires long { SIXTEEN ≤ length text.now }
     requires digits { AreDigits (take 16 text.now) }
     ensures value { result ≡ value (take 16 text.now) }
@@ -131,9 +133,10 @@ fn sixteen_digits(text: &[u8]) -> u64
     EIGHT_DIGITS * u64::from(eights[0]) + u64::from(eights[2])
 }
 
-// The number that sixteen digits at the front write, and what follows them, as `take_eight`.
+// Returns the number that sixteen digits at the front of a text write, and the text after them. None if any other
+// byte stands among them, or if the text is shorter.
 #[inline(always)]
-pub(crate) fn take_sixteen(text: &[u8]) -> Option<(u64, &[u8])>
+pub(crate) fn take_sixteen_digits(text: &[u8]) -> Option<(u64, &[u8])>
     ensures number { IfSome result (λ p. value_after p.0 (digits_at p.1.now).0
         ≡ value_after 0 (digits_at text.now).0) }
     ensures count { IfSome result (λ p. length (digits_at text.now).0
@@ -144,5 +147,5 @@ pub(crate) fn take_sixteen(text: &[u8]) -> Option<(u64, &[u8])>
     if text.len() < SIXTEEN || !are_sixteen_digits(text) {
         return None;
     }
-    Some((sixteen_digits(text), &text[SIXTEEN..]))
+    Some((value_of_sixteen_digits(text), &text[SIXTEEN..]))
 }

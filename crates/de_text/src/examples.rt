@@ -4,7 +4,8 @@ ghost use Rattle.spec_text.specs.Lines.{text_lines};
 ghost use Rattle.de_text.specs.Steps.{lines_after, step_of};
 ghost use Rattle.de_text.specs.declared.cursor.LineStep.TheVariants.{End, Line, TooLong};
 
-/// A cursor skips blank lines and counts them, and stays at a line that is too long.
+/// Works out steps of a cursor over lines. It skips blank lines but counts them: the first line that it meets in one
+/// text is line 3. It takes 4,096 blanks as a blank line, and stays at a line of 4,097.
 pub fn a_cursor_steps_from_line_to_line()
     ensures first { step_of (text_lines (codes "\n \nEMRAT  81.3\r\nlast"))
         ≡ Line (record { number = 3; tokens = codes "EMRAT" ∷ codes "81.3" ∷ [] }) }

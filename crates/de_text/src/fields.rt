@@ -9,40 +9,43 @@ ghost use Rattle.spec_text.specs.declared.limits.TheConstants.{MAX_WORD_BYTES};
 ghost use Rattle.de_text.specs.Parts.{is_minus};
 ghost use Rattle.de_text.specs.Triples.{AreTriple};
 
-use crate::decimal::decimal_of;
-use crate::lines::without_return;
+use crate::decimal::decimal_of_parts;
+use crate::lines::without_carriage_return;
 use crate::parts::split_fraction;
 use crate::tokens::is_separator;
 use crate::triple::Triple;
 use spec_text::Decimal;
 use std::simd::prelude::*;
 
-// A blank, a blank or a minus, a digit, a point, eighteen digits, and an exponent of two.
+// The length of a field, a number in JPL's form: a blank, a blank or a minus, a 0, a point, eighteen digits, and an
+// exponent of a mark, a sign and two digits.
 const FIELD: usize = 26;
 
-// Where the digits after the point begin, and where the mark of the exponent stands.
+// The place in a field, counted from 0, of the first digit after the point.
 const DIGITS: usize = 4;
 
+// The place in a field of the mark of the exponent.
 const MARK: usize = 22;
 
-// The word of two blanks, a 0 and a point, and by how much it is greater where the second is a minus.
+// The first four bytes of a field that is not negative, as one number: two blanks, a 0 and a point.
 const BLANK_FRONT: u32 = 0x2e30_2020;
 
+// By how much that number is greater if the second byte is a minus.
 const MINUS_FRONT: u32 = 256 * 13;
 
 // The length of three fields.
 const FIELDS: usize = 78;
 
-// The length of a line of three fields with its line end, where two blanks and a carriage return stand before the line
-// feed,
+// The length of a line of three fields with two blanks, a carriage return and a line feed.
 const WIDE_LINE: usize = 82;
 
-// and where a carriage return alone does.
+// The length of a line of three fields with a carriage return and a line feed.
 const NEAR_LINE: usize = 80;
 
-// Whether a word that goes up to the end of the form ends there.
+// Tells whether a line ends after its first 26 bytes, the length of a number in JPL's form, or goes on with a blank
+// or a tab.
 #[inline(always)]
-fn is_field_end(line: &[u8]) -> bool
+fn has_field_end(line: &[u8]) -> bool
     ensures { IsTrue result → 26 < length line.now
         → is_separator (slice_index line.now 26) ≡ true }
 {
@@ -53,16 +56,16 @@ fn is_field_end(line: &[u8]) -> bool
     }
 }
 
-// Where a number begins in the form, and whether it has a minus there.
+// The place in a field at which its number begins, 1 with a minus and 2 without, and whether it has a minus there.
 #[derive(Clone, Copy)]
 pub(crate) struct Front {
     pub start: usize,
     pub negative: bool,
 }
 
-// The word of the first four bytes, of which the first is the lowest.
+// Returns the first four bytes of a line as one number of 32 bits, of which the first byte is the lowest.
 #[inline(always)]
-fn front_word(line: &[u8]) -> u32
+fn four_bytes_as_number(line: &[u8]) -> u32
     requires { 4 ≤ length line.now }
     ensures { result ≡ number_l 256 (take 4 line.now) }
 {
@@ -70,8 +73,9 @@ fn front_word(line: &[u8]) -> u32
     words[0]
 }
 
-// The front of a number: two blanks, or a blank and a minus, a 0 and a point. A minus is the odd one, which needs no
-// branch.
+// Returns where a number in JPL's form begins in its 26 bytes, and whether it is negative. The form starts with two
+// blanks, or a blank and a minus, and then `0.`; None for any other front. One bit tells the minus from the blank,
+// which needs no branch.
 #[inline(always)]
 fn field_front(line: &[u8]) -> Option<Front>
     requires { FIELD ≤ length line.now }
@@ -84,7 +88,7 @@ fn field_front(line: &[u8]) -> Option<Front>
     ensures digits { IfSome result (λ f. digit_zero ∷ point ∷ take 22 (drop 4 line.now)
         ≡ (sign_at (take (26 - f.start) (drop f.start line.now))).1) }
 {
-    let word = front_word(line);
+    let word = four_bytes_as_number(line);
     let odd = word / 256 % 2;
     if word != BLANK_FRONT + MINUS_FRONT * odd {
         return None;
@@ -95,7 +99,9 @@ fn field_front(line: &[u8]) -> Option<Front>
     })
 }
 
-// The decimal that a word is, of which its sign, its 0 and its point were read, where the rest is written in the form.
+// Reads the digits and the exponent of a number in JPL's form, whose sign and `0.` were read. None if they are not in
+// that form. `word` is the whole number, with its sign: only the contract speaks of it, and `let _word` lets it go
+// unread.
 #[inline(always)]
 fn read_fraction(negative: bool, digits: &[u8], word: &[u8]) -> Option<Decimal>
     requires short { length word.now ≤ MAX_WORD_BYTES }
@@ -105,11 +111,11 @@ fn read_fraction(negative: bool, digits: &[u8], word: &[u8]) -> Option<Decimal>
 {
     let _word = word;
     let parts = split_fraction(negative, digits)?;
-    Some(decimal_of(&parts))
+    Some(decimal_of_parts(&parts))
 }
 
-// The number at the front of a line, and what follows it, where it is written in the form. Whether its word ends where
-// the form ends is left to the caller.
+// Reads the number in the first 26 bytes of a line, and returns it with the rest of the line. None if these bytes are
+// not in JPL's form. The caller checks that the word ends there, of which the contract's `number` makes a condition.
 #[inline(always)]
 fn cut_field(line: &[u8]) -> Option<(Decimal, &[u8])>
     ensures number { IfSome result (λ p.
@@ -130,22 +136,23 @@ fn cut_field(line: &[u8]) -> Option<(Decimal, &[u8])>
     Some((d, &line[FIELD..]))
 }
 
-// The number at the front of a line, and what follows it, where it is a word that is written in the form.
+// Reads the first word of a line as a number in JPL's form of 26 bytes, and returns it with the rest of the line.
+// None for any other word.
 #[inline(always)]
 pub(crate) fn cut_number(line: &[u8]) -> Option<(Decimal, &[u8])>
     ensures { IfSome result (λ p. (word : List ℕ)
         × (tokens line.now ≡ word ∷ tokens p.1.now) × (Ok p.0 ≡ reading word)) }
 {
-    if !is_field_end(line) {
+    if !has_field_end(line) {
         return None;
     }
     let (number, rest) = cut_field(line)?;
     Some((number, rest))
 }
 
-// Whether nothing is left of a line, or two blanks.
+// Tells whether the rest of a line is empty or two blanks, as after the three numbers of a line of JPL's.
 #[inline(always)]
-fn are_two_blanks(rest: &[u8]) -> bool
+fn is_empty_or_two_blanks(rest: &[u8]) -> bool
     ensures blank { IsTrue result → tokens rest.now ≡ [] }
     ensures front { IsTrue result → 0 < length rest.now
         → is_separator (slice_index rest.now 0) ≡ true }
@@ -156,9 +163,10 @@ fn are_two_blanks(rest: &[u8]) -> bool
     }
 }
 
-// The numbers of a line of three fields, behind which nothing stands but blanks.
+// Reads a line of three numbers in JPL's form, with nothing or two blanks after them. None for any other line, of
+// which it says nothing.
 #[inline(always)]
-fn triple_of(line: &[u8]) -> Option<Triple>
+fn read_triple_line(line: &[u8]) -> Option<Triple>
     ensures triple { IfSome result (λ t. AreTriple (tokens line.now) t) }
     ensures inner { IfSome result (λ t. (k : ℕ) → k < 78
         → is_line_feed (slice_index line.now k) ≡ false) }
@@ -167,7 +175,7 @@ fn triple_of(line: &[u8]) -> Option<Triple>
     let (first, more) = cut_field(line)?;
     let (second, last) = cut_field(more)?;
     let (third, rest) = cut_field(last)?;
-    if !are_two_blanks(rest) {
+    if !is_empty_or_two_blanks(rest) {
         return None;
     }
     Some(Triple {
@@ -177,10 +185,11 @@ fn triple_of(line: &[u8]) -> Option<Triple>
     })
 }
 
-// The place of the line feed, where two blanks and a carriage return stand between it and three fields.
+// Returns the place of the line feed of a line that is three numbers of 26 bytes, two blanks, a carriage return and a
+// line feed. None if these four bytes do not stand there. What the numbers are is not looked at.
 #[tactic(auto, using(crate::proofs::Triples::wide_between))]
 #[inline(always)]
-fn wide_end(text: &[u8]) -> Option<usize>
+fn line_end_after_two_blanks(text: &[u8]) -> Option<usize>
     ensures within { IfSome result (λ end. end < length text.now) }
     ensures near { IfSome result (λ end. end ≤ 81) }
     ensures at { IfSome result (λ end. is_line_feed (slice_index text.now end) ≡ true) }
@@ -196,10 +205,12 @@ fn wide_end(text: &[u8]) -> Option<usize>
     Some(WIDE_LINE - 1)
 }
 
-// The same where a carriage return or nothing stands between.
+// Returns the place of the line feed of a line that is three numbers of 26 bytes and a line feed, with or without a
+// carriage return before it. None if neither stands there, or if the text has fewer than 80 bytes. What the numbers
+// are is not looked at.
 #[tactic(auto, using(crate::proofs::Triples::near_between))]
 #[inline(always)]
-fn near_end(text: &[u8]) -> Option<usize>
+fn line_end_after_numbers(text: &[u8]) -> Option<usize>
     ensures within { IfSome result (λ end. end < length text.now) }
     ensures near { IfSome result (λ end. end ≤ 81) }
     ensures at { IfSome result (λ end. is_line_feed (slice_index text.now end) ≡ true) }
@@ -218,18 +229,19 @@ fn near_end(text: &[u8]) -> Option<usize>
     Some(NEAR_LINE - 1)
 }
 
-// The place of the line feed behind three fields.
+// Returns the place of the line feed after three numbers of 26 bytes, which has one of three line ends: two blanks
+// and a carriage return before it, a carriage return alone, or nothing. None if none of them stands there.
 #[inline(always)]
-fn fields_end(text: &[u8]) -> Option<usize>
+fn triple_line_end(text: &[u8]) -> Option<usize>
     ensures within { IfSome result (λ end. end < length text.now) }
     ensures near { IfSome result (λ end. end ≤ 81) }
     ensures at { IfSome result (λ end. is_line_feed (slice_index text.now end) ≡ true) }
     ensures between { IfSome result (λ end. (k : ℕ) → 78 ≤ k → k < end
         → is_line_feed (slice_index text.now k) ≡ false) }
 {
-    match wide_end(text) {
+    match line_end_after_two_blanks(text) {
         Some(end) => Some(end),
-        None => near_end(text),
+        None => line_end_after_numbers(text),
     }
 }
 
@@ -241,7 +253,8 @@ pub(crate) struct TripleLine<'a> {
     pub rest: &'a [u8],
 }
 
-// The first line of a text, where it has three fields alone.
+// Returns the first line of a text, if it is three numbers in JPL's form, with the numbers and the text after it.
+// None for any other line. The end is looked for only where three numbers would end, which saves a search.
 #[inline(always)]
 pub(crate) fn cut_triple(text: &[u8]) -> Option<TripleLine<'_>>
     ensures lines { IfSome result (λ l. lines text.now ≡ l.bytes.now ∷ lines l.rest.now) }
@@ -250,9 +263,9 @@ pub(crate) fn cut_triple(text: &[u8]) -> Option<TripleLine<'_>>
     ensures short { IfSome result (λ l. length l.bytes.now ≤ 81) }
     ensures shorter { IfSome result (λ l. length l.rest.now < length text.now) }
 {
-    let end = fields_end(text)?;
-    let bytes = without_return(&text[..end]);
-    let triple = triple_of(bytes)?;
+    let end = triple_line_end(text)?;
+    let bytes = without_carriage_return(&text[..end]);
+    let triple = read_triple_line(bytes)?;
     Some(TripleLine {
         bytes,
         triple,

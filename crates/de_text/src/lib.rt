@@ -1,5 +1,5 @@
 //! Texts of numbers. The bytes of a file come in; its lines go out one by one with their numbers and tokens,
-//! and words as decimals and whole numbers, or as the first fault. No call takes memory.
+//! and words as decimals and whole numbers, or as the first fault. No call allocates.
 #![tactic(auto)]
 
 mod cursor;
@@ -16,7 +16,9 @@ mod triple;
 mod words;
 
 pub use cursor::{Line, LineStep, Tokens};
-pub use days::{seconds_of_julian_date, seconds_within, size_over, size_under};
+pub use days::{
+    magnitude_denominator, magnitude_numerator, seconds_of_days_upto, seconds_of_julian_date,
+};
 pub use decimal::{read_decimal, read_whole};
 pub use examples::a_cursor_steps_from_line_to_line;
 pub use spec_text::{DaysFault, Decimal, Fault, NumberFault};

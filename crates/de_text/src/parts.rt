@@ -6,7 +6,7 @@ ghost use Rattle.spec_text.specs.Splitting.{exponent_at, fraction_at, numeral_of
 ghost use Rattle.spec_text.specs.declared.limits.TheConstants.{MAX_EXPONENT};
 ghost use Rattle.de_text.specs.Parts.{IsNear, ShowsExponent, Splits, fraction_digits, is_minus};
 
-use crate::digits::{Digits, eighteen_digits, take_digits, take_many_digits, two_digits};
+use crate::digits::{Digits, take_digits, take_eighteen_digits, take_many_digits, take_two_digits};
 
 // The sign, the number that the digits without the point write, how many of them stand after the point, and the sign
 // and the size of the written exponent. Both numbers are at most `CAP`.
@@ -19,6 +19,7 @@ pub(crate) struct Parts {
     pub exponent: u64,
 }
 
+// Returns whether a word starts with a minus, and the word after its sign. A word without a sign is returned whole.
 #[inline(always)]
 fn take_sign(word: &[u8]) -> (bool, &[u8])
     ensures negative { result.0 ≡ is_minus (sign_at word.now).0 }
@@ -31,7 +32,8 @@ fn take_sign(word: &[u8]) -> (bool, &[u8])
     }
 }
 
-// A point and digits at the front. Without a point there are none.
+// Reads a point at the front of a text and the digits after it, as if they followed those of the number `start`.
+// Without a point nothing is read.
 fn take_fraction(start: u64, text: &[u8]) -> Digits<'_>
     requires { start ≤ 10 ^ 18 }
     ensures number { result.number ≡ min (value_after start (fraction_digits text.now)) (10 ^ 18) }
@@ -48,7 +50,8 @@ fn take_fraction(start: u64, text: &[u8]) -> Digits<'_>
     }
 }
 
-// The sign and the size of an exponent that is the whole text; 0 where the text is empty.
+// Reads a text that is an exponent: a mark D or E of either case, a sign or none, and digits. Returns whether it is
+// negative, and its magnitude. An empty text is the exponent 0; None for any other text.
 fn take_exponent(text: &[u8]) -> Option<(bool, u64)>
     ensures { ShowsExponent (exponent_at text.now) result }
 {
@@ -66,9 +69,9 @@ fn take_exponent(text: &[u8]) -> Option<(bool, u64)>
     }
 }
 
-// The parts of a numeral, by its sign, all its digits and its exponent.
+// Makes the parts of a numeral of its sign, its digits, of which `count` stand after the point, and its exponent.
 #[inline(always)]
-fn parts_of(negative: bool, digits: &Digits, exponent_negative: bool, exponent: u64) -> Parts
+fn numeral_parts(negative: bool, digits: &Digits, exponent_negative: bool, exponent: u64) -> Parts
     ensures { result ≡ record {
       negative = negative;
       mantissa = digits.now.number;
@@ -86,8 +89,8 @@ fn parts_of(negative: bool, digits: &Digits, exponent_negative: bool, exponent: 
     }
 }
 
-// The parts of the numeral that the word is, if it is one.
-pub(crate) fn split(word: &[u8]) -> Option<Parts>
+// Splits a word into the parts of a numeral: its sign, its digits and its exponent. None if the word is no numeral.
+pub(crate) fn split_numeral(word: &[u8]) -> Option<Parts>
     ensures { Splits (numeral_of word.now) result }
 {
     let (negative, rest) = take_sign(word);
@@ -97,12 +100,13 @@ pub(crate) fn split(word: &[u8]) -> Option<Parts>
     if whole.count == 0 && digits.count == 0 {
         return None;
     }
-    Some(parts_of(negative, &digits, exponent_negative, exponent))
+    Some(numeral_parts(negative, &digits, exponent_negative, exponent))
 }
 
-// Whether a sign that is written is a minus. Of both signs one bit tells that, which needs no branch.
+// Tells whether a byte that is a sign is a minus. None for any byte but `+` and `-`. One bit tells the minus from the
+// plus, which needs no branch.
 #[inline(always)]
-fn written_sign(sign: u8) -> Option<bool>
+fn read_sign(sign: u8) -> Option<bool>
     ensures negative { IfSome result (λ negative. (rest : List ℕ)
         → negative ≡ is_minus (sign_at (sign ∷ rest)).0) }
     ensures rest { IfSome result (λ negative. (rest : List ℕ) → rest ≡ (sign_at (sign ∷ rest)).1) }
@@ -114,16 +118,17 @@ fn written_sign(sign: u8) -> Option<bool>
     Some(minus == 1)
 }
 
-// The sign and the size of an exponent as JPL writes it: a D, a sign and two digits.
+// Reads a text that is an exponent as JPL writes it: a `D`, a sign and two digits. Returns whether it is negative,
+// and its magnitude. None for any other text.
 #[inline(always)]
-fn field_exponent(text: &[u8]) -> Option<(bool, u64)>
+fn read_field_exponent(text: &[u8]) -> Option<(bool, u64)>
     ensures shows { IfSome result (λ e. ShowsExponent (exponent_at text.now) (Some e)) }
     ensures few { IfSome result (λ e. e.1 ≤ MAX_EXPONENT) }
 {
     match text {
         [b'D', sign, rest @ ..] => {
-            let negative = written_sign(*sign)?;
-            let digits = two_digits(0, rest)?;
+            let negative = read_sign(*sign)?;
+            let digits = take_two_digits(0, rest)?;
             if digits.count == 0 || !digits.rest.is_empty() {
                 return None;
             }
@@ -133,8 +138,8 @@ fn field_exponent(text: &[u8]) -> Option<(bool, u64)>
     }
 }
 
-// The parts of a word of which the sign, a zero and a point were read, where the rest is as JPL writes its numbers:
-// eighteen digits, and an exponent of two.
+// Splits a number in JPL's form into the parts of a numeral, from the text after its sign and `0.`: eighteen digits
+// and an exponent. None for any other text.
 #[inline(always)]
 pub(crate) fn split_fraction(negative: bool, text: &[u8]) -> Option<Parts>
     ensures splits { IfSome result (λ parts. (word : List ℕ)
@@ -143,14 +148,15 @@ pub(crate) fn split_fraction(negative: bool, text: &[u8]) -> Option<Parts>
         → Splits (numeral_of word) (Some parts)) }
     ensures near { IfSome result IsNear }
 {
-    let digits = eighteen_digits(text)?;
-    let (exponent_negative, exponent) = field_exponent(digits.rest)?;
-    Some(parts_of(negative, &digits, exponent_negative, exponent))
+    let digits = take_eighteen_digits(text)?;
+    let (exponent_negative, exponent) = read_field_exponent(digits.rest)?;
+    Some(numeral_parts(negative, &digits, exponent_negative, exponent))
 }
 
-// The parts of a word as JPL writes its numbers.
+// Splits a word that is written as JPL writes numbers into the parts of a numeral. None for any other word, which may
+// still be a numeral.
 #[inline(always)]
-pub(crate) fn split_plain(word: &[u8]) -> Option<Parts>
+pub(crate) fn split_jpl_number(word: &[u8]) -> Option<Parts>
     ensures splits { IfSome result (λ parts. Splits (numeral_of word.now) (Some parts)) }
     ensures near { IfSome result IsNear }
 {

@@ -5,19 +5,22 @@ ghost use Rattle.spec_text.specs.Lines.{is_separator, tokens};
 
 use std::simd::prelude::*;
 
-// How many bytes are looked at at a time.
+// How many bytes of a text's end, or of a short text, are looked at at a time.
 const LANES: usize = 16;
 
+// How many bytes are looked at at a time while as many are left.
 const WIDE: usize = 32;
 
+// Tells whether a byte is a blank or a tab, which part the tokens of a line.
 pub(crate) fn is_separator(b: u8) -> bool
     ensures { result ≡ is_separator b }
 {
     b == b' ' || b == b'\t'
 }
 
-// How many blanks and tabs stand at the front.
-fn blank_len(line: &[u8]) -> usize
+// Returns how many blanks and tabs stand at the front of a line, before its first other byte. If there is none, it is
+// the line's length.
+fn blank_length(line: &[u8]) -> usize
     ensures within { result ≤ length line.now }
     ensures before { (k : ℕ) → k < result → is_separator (slice_index line.now k) ≡ true }
     ensures at { result < length line.now → is_separator (slice_index line.now result) ≡ false }
@@ -30,19 +33,19 @@ fn blank_len(line: &[u8]) -> usize
     line.len()
 }
 
-// Whether the line has no token.
+// Tells whether a line has no token: it is empty, or blanks and tabs alone.
 #[tactic(auto, using(spec_text::proofs::TokenLemmas::blank_line))]
 pub(crate) fn is_blank(line: &[u8]) -> bool
     ensures blank { IsTrue result → tokens line.now ≡ [] }
     ensures some { IsFalse result → 0 < length (tokens line.now) }
 {
-    blank_len(line) == line.len()
+    blank_length(line) == line.len()
 }
 
-// How many of thirty-two bytes, from a place on, come before the first that is no greater than a blank. None of these is
-// a separator.
+// Returns how many of the 32 bytes from a place on come before the first of them that is a blank or less, which is 32
+// if none is. Separators, a blank and a tab, are among these bytes.
 #[inline(always)]
-fn wide_run(text: &[u8], at: usize) -> usize
+fn run_in_32_bytes(text: &[u8], at: usize) -> usize
     requires { at + WIDE ≤ length text.now }
     ensures within { result ≤ WIDE }
     ensures before { (k : ℕ) → at ≤ k → k < at + result
@@ -57,9 +60,10 @@ fn wide_run(text: &[u8], at: usize) -> usize
     }
 }
 
-// The same of sixteen bytes.
+// Returns how many of the 16 bytes from a place on come before the first of them that is a blank or less, which is 16
+// if none is. Separators, a blank and a tab, are among these bytes.
 #[inline(always)]
-fn token_run(text: &[u8], at: usize) -> usize
+fn run_in_16_bytes(text: &[u8], at: usize) -> usize
     requires { at + LANES ≤ length text.now }
     ensures within { result ≤ LANES }
     ensures before { (k : ℕ) → at ≤ k → k < at + result
@@ -74,15 +78,16 @@ fn token_run(text: &[u8], at: usize) -> usize
     }
 }
 
-// How many bytes of the token at the front are passed thirty-two at a time.
+// Returns how many bytes at the front of a text are found, 32 at a time, to belong to its first token. The search
+// stops at a byte that is a blank or less, and where fewer than 32 bytes are left; so the token may go on.
 #[inline(always)]
-fn wide_front(text: &[u8]) -> usize
+fn token_front_by_32(text: &[u8]) -> usize
     ensures within { result ≤ length text.now }
     ensures before { (k : ℕ) → k < result → is_separator (slice_index text.now k) ≡ false }
 {
     let mut passed = 0;
     while WIDE <= text.len() - passed {
-        let run = wide_run(text, passed);
+        let run = run_in_32_bytes(text, passed);
         passed += run;
         if run < WIDE {
             return passed;
@@ -91,10 +96,11 @@ fn wide_front(text: &[u8]) -> usize
     passed
 }
 
-// How many bytes of it are passed in all, after those that were passed before: the next sixteen are looked at, and the
-// text's last sixteen, which meet them where fewer than thirty-two are left. Fewer than sixteen are left to a plain loop.
+// Returns how many bytes at the front of a text are found to belong to its first token, of which `passed` were found
+// before. It looks at the next 16 bytes, and at the text's last 16 if these overlap or follow them; at nothing if
+// fewer than 16 are left. So the token may go on.
 #[inline(always)]
-fn last_front(text: &[u8], passed: usize) -> usize
+fn token_front_by_16(text: &[u8], passed: usize) -> usize
     requires within { passed ≤ length text.now }
     requires before { (k : ℕ) → k < passed → is_separator (slice_index text.now k) ≡ false }
     ensures within { result ≤ length text.now }
@@ -103,21 +109,22 @@ fn last_front(text: &[u8], passed: usize) -> usize
     if text.len() - passed < LANES {
         return passed;
     }
-    let run = token_run(text, passed);
+    let run = run_in_16_bytes(text, passed);
     let last = text.len() - LANES;
     if run < LANES || passed + LANES < last {
         return passed + run;
     }
-    last + token_run(text, last)
+    last + run_in_16_bytes(text, last)
 }
 
-// How many bytes the token at the front has.
-fn token_len(text: &[u8]) -> usize
+// Returns how many bytes the token at the front of a text has: those before the first blank or tab, or all if there
+// is none.
+fn token_length(text: &[u8]) -> usize
     ensures within { result ≤ length text.now }
     ensures before { (k : ℕ) → k < result → is_separator (slice_index text.now k) ≡ false }
     ensures at { result < length text.now → is_separator (slice_index text.now result) ≡ true }
 {
-    for i in last_front(text, wide_front(text))..text.len() {
+    for i in token_front_by_16(text, token_front_by_32(text))..text.len() {
         if is_separator(text[i]) {
             return i;
         }
@@ -125,23 +132,23 @@ fn token_len(text: &[u8]) -> usize
     text.len()
 }
 
-// The first token, and what follows it.
+// Returns the first token of a line, and what follows it. None if the line has no token.
 pub(crate) fn cut_token(line: &[u8]) -> Option<(&[u8], &[u8])>
     ensures blank { IfNone result (tokens line.now ≡ []) }
     ensures token { IfSome result (λ p. tokens line.now ≡ p.0.now ∷ tokens p.1.now) }
     ensures shorter { IfSome result (λ p. length p.1.now < length line.now) }
 {
-    let start = blank_len(line);
+    let start = blank_length(line);
     if start == line.len() {
         return None;
     }
     let text = &line[start..];
-    let end = token_len(text);
+    let end = token_length(text);
     Some(text.split_at(end))
 }
 
-// How many tokens the line has.
-pub(crate) fn count(line: &[u8]) -> usize
+// Returns how many tokens a line has.
+pub(crate) fn token_count(line: &[u8]) -> usize
     ensures { result ≡ length (tokens line.now) }
 {
     let mut rest = line;
@@ -153,8 +160,8 @@ pub(crate) fn count(line: &[u8]) -> usize
     count
 }
 
-// The token at a place, counted from 0.
-pub(crate) fn token(line: &[u8], i: usize) -> Option<&[u8]>
+// Returns the token at a place of a line, counted from 0. None if the place is the count of tokens or past it.
+pub(crate) fn token_at(line: &[u8], i: usize) -> Option<&[u8]>
     ensures { option_copied result ≡ slice_get (tokens line.now) i }
 {
     let mut rest = line;

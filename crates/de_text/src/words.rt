@@ -25,17 +25,17 @@ impl<'a> Model for Words<'a> {
 }
 
 impl<'a> Words<'a> {
-    /// A cursor over the tokens of a line, which has no line end.
+    /// Makes a cursor over the tokens of a line, which comes without its line end.
     pub fn of(line: &'a [u8]) -> Self
         ensures { result ≡ tokens line.entry.now }
     {
         Words { rest: line }
     }
 
-    /// The number that the next word is, where it is written as JPL writes those of blocks; that word is then passed.
-    /// Elsewhere nothing is passed.
+    /// Reads the next word as a number and passes it, if it is written as JPL writes those of blocks. None for any
+    /// other word, which is not passed, and if no word is left.
     #[inline(always)]
-    pub fn number(&mut self) -> Option<Decimal>
+    pub fn next_number(&mut self) -> Option<Decimal>
         ensures number { IfSome result (λ d. (word : List ℕ)
             × (self.old ≡ word ∷ self.new) × (Ok d ≡ reading word)) }
         ensures other { IfNone result (self.new ≡ self.old) }
@@ -53,6 +53,7 @@ impl<'a> Iterator for Words<'a> {
 
     ghost remaining = { item_count (λ left. left) };
 
+    // Returns the next word, and passes it. None if no word is left.
     fn next(&mut self) -> Option<&'a [u8]> {
         match cut_token(self.rest) {
             Some((word, rest)) => {

@@ -1,4 +1,4 @@
-// The lines of generated blocks. Calls fail only where memory is out.
+// The lines of generated blocks. Calls fail only if memory is out.
 ghost use Rattle.std.specs.Prelude.{◌≡◌, ◌+◌, ◌-◌, ◌*◌, ◌<◌, ◌≤◌, ◌++◌, ◌∷◌, [], ℕ, OnOk, string_bytes};
 ghost use Rattle.spec_text.specs.Bytes.{line_feed};
 ghost use Rattle.spec_generated.specs.Blocks.{block_lines, row, rows_from};
@@ -12,7 +12,8 @@ use spec_generated::{DRAWS, MAX_GENERATED, NCOEFF, ROWS};
 use std::alloc::AllocError;
 use std::fmt::Write;
 
-// Appends the line of the words at three places of a block, from `place` on.
+// Appends a line of a generated block, counted from 0: the words at three places from `place` on, counted from 1,
+// parted by blanks. The only error is out of memory.
 fn add_row(text: &mut String, block: u32, place: u32, draws: &mut Draws) -> Result<(), AllocError>
     requires few { block < MAX_GENERATED }
     requires some { 0 < place }
@@ -31,7 +32,8 @@ fn add_row(text: &mut String, block: u32, place: u32, draws: &mut Draws) -> Resu
     text.push('\n')
 }
 
-// Appends all lines of a block but its first.
+// Appends all lines of a generated block, counted from 0, but its first, with three words in each. Its coefficients
+// are the next draws. The only error is out of memory.
 fn add_rows(text: &mut String, block: u32, draws: &mut Draws) -> Result<(), AllocError>
     requires few { block < MAX_GENERATED }
     ensures rows { OnOk result (string_bytes text.new
@@ -44,7 +46,8 @@ fn add_rows(text: &mut String, block: u32, draws: &mut Draws) -> Result<(), Allo
     Ok(())
 }
 
-/// Appends the lines of a block, counted from 0, with coefficients from the next draws.
+/// Appends the lines of a generated block, counted from 0, whose coefficients are the next draws. The first line has
+/// the block's number, counted from 1, and the count of its numbers. The only error is out of memory.
 pub fn add_block(text: &mut String, block: u32, draws: &mut Draws) -> Result<(), AllocError>
     requires few { block < MAX_GENERATED }
     ensures lines { OnOk result (string_bytes text.new

@@ -20,14 +20,14 @@ impl Model for Draws {
 }
 
 impl Draws {
-    /// Starts the draws of this seed, none of which is taken yet.
+    /// Starts the draws of this seed, of which none is taken yet.
     pub fn new(seed: u64) -> Self
         ensures { result ≡ seed }
     {
         Draws { state: seed }
     }
 
-    /// Returns the next draw, any number of 32 bits.
+    /// Returns the next draw, a number of 32 bits: the upper half of the next state.
     pub fn draw(&mut self) -> u32
         ensures moved { self.new ≡ next_state self.old }
         ensures drawn { result ≡ drawn self.new }

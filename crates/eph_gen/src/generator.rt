@@ -12,8 +12,9 @@ use std::alloc::{AllocError, Global};
 /// The one error of the calls: out of memory.
 pub type Memory = AllocError;
 
-// Returns the lines before the blocks, which are the same in every generated text.
-fn header() -> &'static str
+// Returns the lines before the blocks, which are the same in every generated text: the header of a file with DE405's
+// columns.
+fn header_text() -> &'static str
     ensures { result.now ≡ joined_lines header_lines }
 {
     "KSIZE= 2036 NCOEFF= 1018
@@ -35,10 +36,10 @@ GROUP 1070
 "
 }
 
-/// Returns the text of `blocks` blocks and a seed: JPL's form of DE405's columns, with blocks of 32 days from Julian
-/// date 2451536.5 on. Each coefficient takes one draw, in the order of the places over all blocks. The text is
-/// accepted as the only file, whatever the seed; its granules do not join smoothly. A block takes about 26,000 bytes.
-/// The only error is out of memory.
+/// Returns a text of this many blocks, with coefficients that are drawn from the seed: JPL's form of DE405's columns,
+/// with blocks of 32 days from Julian date 2451536.5 on. Each coefficient takes one draw, in the order of the places
+/// over all blocks. The text is accepted as the only file, whatever the seed; its granules do not join smoothly. A
+/// block takes about 26,000 bytes. The only error is out of memory.
 pub fn generate(alloc: Global, blocks: u32, seed: u64) -> Result<Vec<u8>, Memory>
     requires some { 0 < blocks }
     requires few { blocks ≤ MAX_GENERATED }
@@ -46,7 +47,7 @@ pub fn generate(alloc: Global, blocks: u32, seed: u64) -> Result<Vec<u8>, Memory
     ensures accepted { IfOk result (λ text.
         outcome (text.items ∷ []) ≡ Ok (generated_ephemeris blocks seed)) }
 {
-    let mut text = String::from_str(alloc, header())?;
+    let mut text = String::from_str(alloc, header_text())?;
     let mut draws = Draws::new(seed);
     for block in 0..blocks {
         add_block(&mut text, block, &mut draws)?;

@@ -1,16 +1,17 @@
-// The words of generated blocks. Calls fail only where memory is out.
+// The words of generated blocks. Calls fail only if memory is out.
 ghost use Rattle.std.specs.Prelude.{◌≡◌, ◌+◌, ◌-◌, ◌<◌, ◌≤◌, ◌++◌, ℕ, OnOk, string_bytes};
 ghost use Rattle.spec_generated.specs.Draws.{IsUpto};
 ghost use Rattle.spec_generated.specs.Words.{block_word, coefficient_word, date_word, fraction_word, sign_word};
 
 use crate::draws::Draws;
-use crate::terms::{millionths, term_at};
+use crate::terms::{coefficient_in_millionths, shape_at};
 use spec_ephemeris::FIRST_PLACE;
 use spec_generated::{BLOCK_DATES, FIRST_DATE, MAX_GENERATED, NCOEFF};
 use std::alloc::AllocError;
 use std::fmt::Write;
 
-// Appends `0.`, a number in 18 digits, and the text of an exponent.
+// Appends a number below 1 as JPL writes it: `0.`, `size` in 18 digits, and the text of an exponent. A `size` of more
+// digits is written whole. The only error is out of memory.
 fn add_fraction(text: &mut String, size: u64, exponent: &str) -> Result<(), AllocError>
     ensures { OnOk result
         (string_bytes text.new ≡ string_bytes text.old ++ fraction_word size exponent.now) }
@@ -18,14 +19,15 @@ fn add_fraction(text: &mut String, size: u64, exponent: &str) -> Result<(), Allo
     write!(text, "0.{size:018}{exponent}")
 }
 
-// Appends a minus sign for a number below 0, and nothing for any other.
+// Appends a minus sign for a number below 0, and nothing for any other. The only error is out of memory.
 fn add_sign(text: &mut String, number: i64) -> Result<(), AllocError>
     ensures { OnOk result (string_bytes text.new ≡ string_bytes text.old ++ sign_word number) }
 {
     if number < 0 { text.push('-') } else { Ok(()) }
 }
 
-// Appends the Julian date at which a block, counted from 0, starts.
+// Appends the Julian date at which a block, counted from 0, starts, as JPL writes it. The only error is out of
+// memory.
 fn add_date(text: &mut String, block: u32) -> Result<(), AllocError>
     requires { block ≤ MAX_GENERATED }
     ensures { OnOk result (string_bytes text.new ≡ string_bytes text.old ++ date_word block) }
@@ -34,7 +36,8 @@ fn add_date(text: &mut String, block: u32) -> Result<(), AllocError>
     add_fraction(text, date, "D+07")
 }
 
-// Appends a coefficient, which is given in millionths of a km.
+// Appends a coefficient in km as JPL writes it, from its number of millionths of a km. The only error is out of
+// memory.
 fn add_coefficient(text: &mut String, millionths: i64) -> Result<(), AllocError>
     ensures { OnOk result
         (string_bytes text.new ≡ string_bytes text.old ++ coefficient_word millionths) }
@@ -43,7 +46,8 @@ fn add_coefficient(text: &mut String, millionths: i64) -> Result<(), AllocError>
     add_fraction(text, millionths.unsigned_abs(), "D+12")
 }
 
-/// Appends the word at a place, counted from 1, of a block, counted from 0. A coefficient takes the next draw.
+/// Appends the word at a place, counted from 1, of a block, counted from 0: its two dates first, then coefficients,
+/// each of which takes the next draw, and zeros after the last. The only error is out of memory.
 pub fn add_word(
     text: &mut String,
     block: u32,
@@ -62,6 +66,9 @@ pub fn add_word(
     } else if NCOEFF < place {
         text.push_str("0.000000000000000000D+00")
     } else {
-        add_coefficient(text, millionths(term_at(place), draws.draw()))
+        add_coefficient(
+            text,
+            coefficient_in_millionths(shape_at(place), draws.draw()),
+        )
     }
 }

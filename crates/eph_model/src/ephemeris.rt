@@ -9,9 +9,9 @@ ghost use Rattle.spec_ephemeris.specs.Rounding.{pairs_of};
 ghost use Rattle.spec_ephemeris.specs.Ticks.{IsInSeconds, IsTick, header_in_ticks, in_ticks};
 ghost use Rattle.eph_model.specs.Grids.{IsGridOf};
 
-use crate::borders::preferred;
-use crate::columns::{components, is_present};
-use crate::granules::{column_of, granule_place, granule_seconds, numbers_at, present_column};
+use crate::borders::nearer_border;
+use crate::columns::{component_count, is_present};
+use crate::granules::{block_values_at, column_of, granule_place, granule_seconds, present_column};
 use crate::grid::Grid;
 use crate::rounding::push_pairs;
 use spec_ephemeris::{BODY_COLUMNS, Column, Granule, Header, Rounded};
@@ -55,7 +55,7 @@ impl Model for Ephemeris {
     }) × ArePairs e.numbers.items e.pairs.items };
 }
 
-// Returns a header whose block length counts ticks, `tick` of them in a second.
+// Returns a header whose block length counts ticks in place of seconds, `tick` of them in a second. All else stays.
 fn header_in_ticks(header: Header, tick: u32) -> Header
     requires tick { IsTick tick }
     requires long { header.block_seconds ≤ℤ LONGEST_BLOCK }
@@ -93,7 +93,8 @@ impl Ephemeris {
     }
 
     /// Adds one block of as many numbers as the header says, after the last: its two Julian dates, and the
-    /// coefficients of its columns in km, each of which is rounded once, here. After `Memory` nothing has changed.
+    /// coefficients of its columns in km, each of which is rounded once, here. The only error is out of memory, after
+    /// which nothing has changed.
     pub fn push_block(&mut self, numbers: &[Decimal]) -> Result<(), Memory>
         requires block { IsBlock self.old.header numbers.now }
         requires room { self.old.blocks < MAX_BLOCKS }
@@ -108,7 +109,8 @@ impl Ephemeris {
     }
 
     /// Returns the ephemeris with times that count ticks since J2000 in TDB, `tick` of them in a second, from 1 to
-    /// 1,000. From then on each time, and the length of a granule in `seconds`, counts ticks. It does not allocate.
+    /// 1,000. Each time of its calls, and the length of a granule in `seconds`, counts ticks too. It does not
+    /// allocate.
     pub fn in_ticks(self, tick: u32) -> Ephemeris
         requires tick { IsTick tick }
         requires seconds { IsInSeconds self }
@@ -131,7 +133,7 @@ impl Ephemeris {
         }
     }
 
-    // Returns the time at which the first block starts, in ticks since J2000 in TDB.
+    // Returns the time at which the first block starts, in ticks since J2000 in TDB, `tick` of them in a second.
     fn start_in_ticks(&self, tick: u32) -> i64
         requires tick { IsTick tick }
         requires seconds { IsInSeconds self.now }
@@ -140,14 +142,15 @@ impl Ephemeris {
         self.start() * i64::from(tick)
     }
 
-    /// Returns the time at which the first block starts.
+    /// Returns the time at which the first block starts, in seconds of TDB since J2000, or in ticks after `in_ticks`.
     pub fn start(&self) -> i64
         ensures { result ≡ self.now.start }
     {
         self.start
     }
 
-    /// Returns the time at which the last block ends.
+    /// Returns the time at which the last block ends, in seconds of TDB since J2000, or in ticks after `in_ticks`.
+    /// Without a block it is the start.
     pub fn end(&self) -> i64
         ensures { result ≡ end_of self.now }
     {
@@ -161,7 +164,7 @@ impl Ephemeris {
         self.blocks
     }
 
-    /// Returns the header, which meets the rules.
+    /// Returns the header, which meets the rules. The clause `checked` gives callers what holds for every ephemeris.
     pub fn header(&self) -> &Header
         ensures same { result.now ≡ self.now.header }
         ensures checked { IsEphemeris self.now }
@@ -169,8 +172,8 @@ impl Ephemeris {
         &self.header
     }
 
-    /// Tells whether the ephemeris has a column, counted from 1 in the order of the header. Columns past the 13th are
-    /// not read.
+    /// Tells whether the ephemeris has a column with numbers, counted from 1 in the order of the header. Columns past
+    /// the 13th are not read, so it has none of them.
     pub fn has(&self, column: usize) -> bool
         ensures { result ≡ has_column self.now.header column }
     {
@@ -180,7 +183,8 @@ impl Ephemeris {
         }
     }
 
-    // Returns the granules of a column, counted from 1, over the whole ephemeris.
+    // Returns the granules of a column, counted from 1, over all blocks: the start of the first, the length of each,
+    // and their count.
     fn grid(&self, column: usize) -> Grid
         requires { IsTrue (has_column self.now.header column) }
         ensures grid { IsGridOf self.now column result }
@@ -220,18 +224,21 @@ impl Ephemeris {
         let granules = u64::from(grid.column.granules);
         let (block, inner) = ((index / granules) as usize, (index % granules) as usize);
         Granule {
-            start: grid.time_of(index),
+            start: grid.granule_start(index),
             seconds: grid.seconds as i64,
             n: grid.column.coefs as usize,
-            comps: components(column),
+            comps: component_count(column),
             coefs: self.granule_numbers(column, grid.column, block, inner),
             rounded: self.granule_pairs(column, grid.column, block, inner),
         }
     }
 
-    /// Returns the border of the given columns in (a, b] that is nearest to the middle of a and b, and the smaller of
-    /// two that are as near. None where no border lies there. A border of a column is a time at which any of its
-    /// granules but the first starts. Columns are counted from 1.
+    /// Returns the border of the given columns in (a, b] that is nearest to the middle, and the smaller of two as
+    /// near. None if no border lies there. A border of a column is a time at which any of its granules but the first
+    /// starts. Columns are counted from 1.
+    ///
+    /// `let _header` computes nothing: that call's contract brings in the rules of the ephemeris, on which the grids
+    /// stand.
     pub fn border_near(&self, columns: &[usize], a: i64, b: i64) -> Option<i64>
         requires present { All (λ column. IsTrue (has_column self.now.header column)) columns.now }
         requires from { self.now.start ≤ℤ a }
@@ -243,12 +250,13 @@ impl Ephemeris {
         let mut nearest = None;
         for &column in columns {
             let own = self.grid(column).border_near(a, b);
-            nearest = preferred(nearest, own, a, b);
+            nearest = nearer_border(nearest, own, a, b);
         }
         nearest
     }
 
-    // Returns the numbers of a granule of a block, both counted from 0.
+    // Returns the coefficients of a granule, component after component. `number` is the column's, counted from 1;
+    // blocks, and the granules of a block (`inner`), are counted from 0.
     fn granule_numbers(
         &self,
         number: usize,
@@ -265,7 +273,7 @@ impl Ephemeris {
         ensures bodies { number ≤ BODY_COLUMNS → All IsBodyNumber result.now }
     {
         let (first, size) = granule_place(&self.header, number, column, inner);
-        numbers_at(
+        block_values_at(
             &self.numbers,
             self.header.ncoeff as usize,
             block,
@@ -274,8 +282,9 @@ impl Ephemeris {
         )
     }
 
-    // Returns the rounded pairs beside the numbers of a granule of a body. Columns of no body have none, and give an
-    // empty slice.
+    // Returns the rounded pairs beside the coefficients of a granule. A column of no body has none, and gives an
+    // empty slice. `number` is the column's, counted from 1; blocks, and the granules of a block (`inner`), are
+    // counted from 0.
     fn granule_pairs(&self, number: usize, column: Column, block: usize, inner: usize) -> &[Rounded]
         requires present { IsColumn self.now.header number column }
         requires block { block < self.now.blocks }
@@ -287,6 +296,6 @@ impl Ephemeris {
             return &self.pairs[..0];
         }
         let (first, size) = granule_place(&self.header, number, column, inner);
-        numbers_at(&self.pairs, self.header.ncoeff as usize, block, first, size)
+        block_values_at(&self.pairs, self.header.ncoeff as usize, block, first, size)
     }
 }

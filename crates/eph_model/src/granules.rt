@@ -3,11 +3,12 @@ ghost use Rattle.std.specs.Prelude.{◌≡◌, ◌+◌, ◌-◌, ◌*◌, ◌/�
 ghost use Rattle.spec_ephemeris.specs.Series.{to_nat};
 ghost use Rattle.spec_ephemeris.specs.Header.{IsColumn, IsHeader, IsShared, column_at, granule_size, is_present, is_present_at};
 
-use crate::columns::components;
+use crate::columns::component_count;
 use crate::grid::Grid;
 use spec_ephemeris::{Column, Header, READ_COLUMNS};
 
-// Returns the column of this number, counted from 1. None where it is not among those that are read.
+// Returns the column of this number, counted from 1. None if the number is 0 or past the 13 columns that are read, or
+// if the list ends before it.
 pub(crate) fn column_of(columns: &[Column], number: usize) -> Option<Column>
     ensures { result ≡ column_at columns.now number }
 {
@@ -17,7 +18,7 @@ pub(crate) fn column_of(columns: &[Column], number: usize) -> Option<Column>
     columns.get(number - 1).copied()
 }
 
-// Returns the column of this number, counted from 1, at which a column is present.
+// Returns the column of this number, counted from 1, of which the caller knows that it is listed and has numbers.
 pub(crate) fn present_column(columns: &[Column], number: usize) -> Column
     requires { IsTrue (is_present_at (column_at columns.now number)) }
     ensures listed { column_at columns.now number ≡ Some result }
@@ -26,7 +27,8 @@ pub(crate) fn present_column(columns: &[Column], number: usize) -> Column
     columns[number - 1]
 }
 
-// Returns the length of each of the granules that share a block evenly.
+// Returns the length of each of the granules that share a block evenly, in the unit of the block's length: seconds or
+// ticks.
 pub(crate) fn granule_seconds(block: i64, granules: u32) -> u64
     requires length { pos 0 <ℤ block }
     requires some { 0 < granules }
@@ -38,7 +40,7 @@ pub(crate) fn granule_seconds(block: i64, granules: u32) -> u64
 }
 
 // Returns the place of a granule's first number in its block, counted from 0, and how many numbers the granule has.
-// The granules of a block are counted from 0.
+// `number` is the column's, counted from 1, and `inner` the granule's in its block, counted from 0.
 pub(crate) fn granule_place(
     header: &Header,
     number: usize,
@@ -52,14 +54,14 @@ pub(crate) fn granule_place(
     ensures size { result.1 ≡ granule_size number column }
     ensures within { result.0 + result.1 ≤ header.now.ncoeff }
 {
-    let size = components(number) * column.coefs as usize;
+    let size = component_count(number) * column.coefs as usize;
     let first = column.start as usize - 1 + inner * size;
     (first, size)
 }
 
-// Returns `size` values of a block, from `first` on, which is counted from 0. The values are a block's numbers, or
-// what stands beside them.
-pub(crate) fn numbers_at<T>(
+// Returns `size` of the values of a block, from its place `first` on; blocks and places are counted from 0. Each
+// block has `ncoeff` values, its numbers or the rounded pairs that are kept beside them.
+pub(crate) fn block_values_at<T>(
     numbers: &[T],
     ncoeff: usize,
     block: usize,
@@ -77,15 +79,17 @@ pub(crate) fn numbers_at<T>(
 }
 
 impl Grid {
-    // Returns the time at which a granule, counted from 0, starts.
-    pub fn time_of(self, index: u64) -> i64
+    // Returns the time at which a granule, counted from 0, starts. For the count of granules it is the time at which
+    // the last one ends.
+    pub fn granule_start(self, index: u64) -> i64
         requires { index ≤ self.count }
         ensures { result ≡ self.start +ℤ pos (index * self.seconds) }
     {
         self.start + (index * self.seconds) as i64
     }
 
-    // Returns the granule, counted from 0, in which a time lies. The end of the last granule belongs to it.
+    // Returns the granule, counted from 0, in which a time lies. A granule's start belongs to it, and the end of the
+    // last granule to that one.
     pub fn index_at(self, t: i64) -> u64
         requires some { 0 < self.count }
         requires from { self.start ≤ℤ t }
@@ -93,13 +97,13 @@ impl Grid {
         ensures in_range { result < self.count }
         ensures index { result ≡ min (to_nat (t -ℤ self.start) / self.seconds) (self.count - 1) }
     {
-        index_at((t - self.start) as u64, self.seconds, self.count)
+        index_at_offset((t - self.start) as u64, self.seconds, self.count)
     }
 }
 
 // Returns the granule, counted from 0, in which a time lies that is `offset` after the start of the first. From the
-// end of the last granule on it is the last one.
-fn index_at(offset: u64, seconds: u64, count: u64) -> u64
+// end of the last granule on, it is the last one.
+fn index_at_offset(offset: u64, seconds: u64, count: u64) -> u64
     requires length { 0 < seconds }
     requires some { 0 < count }
     ensures { result ≡ min (offset / seconds) (count - 1) }

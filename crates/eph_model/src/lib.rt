@@ -15,9 +15,9 @@ mod quick;
 mod rounding;
 mod store;
 
-pub use columns::{components, is_present, place_after};
+pub use columns::{component_count, is_present, place_after_column};
 pub use ephemeris::{Ephemeris, Memory};
-pub use quick::quick_pair;
+pub use quick::rounded_pair_by_guess;
 pub use rounding::{pair_of, rounded};
 pub use spec_ephemeris::{Body, Column, Columns, Granule, Header, Rounded};
 pub use store::BlockStore;

@@ -5,6 +5,7 @@ ghost use Rattle.eph_model.specs.Quotients.{IsQuotient, IsOf};
 ghost use Rattle.eph_model.specs.Stores.{IsRounded};
 
 use crate::rounding::SMALL_EXPONENT;
+use ival_core::TEN_INVERSES;
 use spec_ephemeris::Rounded;
 use spec_text::Decimal;
 
@@ -48,64 +49,37 @@ const DIVIDERS: [u64; 27] = [
     5_960_464_477_539_062_500,
 ];
 
-// The quotients 2^24 / 10^n times 2^(64 + k), rounded up, with the greatest k by which they fit 64 bits.
-const INVERSES: [u64; 27] = [
-    18_446_744_073_709_551_615,
-    18_446_744_073_709_551_615,
-    18_446_744_073_709_551_615,
-    18_446_744_073_709_551_615,
-    18_446_744_073_709_551_615,
-    18_446_744_073_709_551_615,
-    18_446_744_073_709_551_615,
-    18_446_744_073_709_551_615,
-    12_379_400_392_853_802_749,
-    9_903_520_314_283_042_200,
-    15_845_632_502_852_867_519,
-    12_676_506_002_282_294_015,
-    10_141_204_801_825_835_212,
-    16_225_927_682_921_336_340,
-    12_980_742_146_337_069_072,
-    10_384_593_717_069_655_258,
-    16_615_349_947_311_448_412,
-    13_292_279_957_849_158_730,
-    10_633_823_966_279_326_984,
-    17_014_118_346_046_923_174,
-    13_611_294_676_837_538_539,
-    10_889_035_741_470_030_831,
-    17_422_457_186_352_049_330,
-    13_937_965_749_081_639_464,
-    11_150_372_599_265_311_571,
-    17_840_596_158_824_498_514,
-    14_272_476_927_059_598_811,
-];
-
-// The greatest k by which each of the `INVERSES` fits 64 bits.
+// The greatest k at which 2^24 / 10^n times 2^(64 + k), rounded up, fits 64 bits. That number is the inverse of 10^n, from
+// an n of 8 on. Below 8 the quotient is greater than 1, and no guess is right.
 const SHIFTS: [u32; 27] = [
     0, 0, 0, 0, 0, 0, 0, 0, 2, 5, 9, 12, 15, 19, 22, 25, 29, 32, 35, 39, 42, 45, 49, 52, 55, 59, 62,
 ];
 
-// Returns the numerator of 2^24 / 10^places in lowest terms with the denominator `divider`.
-fn unit(places: usize) -> u64
+// Returns the numerator of `2^24 / 10^places` in lowest terms. That fraction makes units of 2^-24 km of the digits of
+// a number of km with `places` digits after the point.
+fn unit_numerator(places: usize) -> u64
     requires { places ≤ MAX_PLACES }
     ensures { result ≡ 2 ^ (24 - places) }
 {
     UNITS[places]
 }
 
-// Returns the denominator of 2^24 / 10^places in lowest terms with the numerator `unit`.
-fn divider(places: usize) -> u64
+// Returns the denominator of `2^24 / 10^places` in lowest terms. That fraction makes units of 2^-24 km of the digits
+// of a number of km with `places` digits after the point.
+fn unit_denominator(places: usize) -> u64
     requires { places ≤ MAX_PLACES }
     ensures { result ≡ 5 ^ places * 2 ^ (places - 24) }
 {
     DIVIDERS[places]
 }
 
-// Guesses `size * 2^24 / 10^places`, rounded down. Nothing is claimed of it, since `checked` tests it.
+// Returns a guess of `size * 2^24 / 10^places`, rounded down, by a multiplication with a kept inverse of `10^places`.
+// The contract says nothing of the guess, since `check_guess` tests it.
 #[inline(always)]
-fn guess(size: u64, places: usize) -> u64
+fn guess_quotient(size: u64, places: usize) -> u64
     requires { places ≤ MAX_PLACES }
 {
-    let product = u128::from(size) * u128::from(INVERSES[places]);
+    let product = u128::from(size) * u128::from(TEN_INVERSES[places]);
     ((product >> 64) % (1 << 64)) as u64 >> (SHIFTS[places] % 64)
 }
 
@@ -116,9 +90,10 @@ struct Quotient {
     left: u64,
 }
 
-// Returns the quotient and the rest of `top / divider`, where the guess is right, else none.
+// Returns the quotient of `top / divider`, rounded down, and the rest, if the guess is that quotient. None if it is
+// not.
 #[inline(always)]
-fn checked(top: u128, divider: u64, guess: u64) -> Option<Quotient>
+fn check_guess(top: u128, divider: u64, guess: u64) -> Option<Quotient>
     ensures parts { IfSome result (λ q. q.quotient * divider + q.left ≡ top) }
     ensures less { IfSome result (λ q. q.left < divider) }
 {
@@ -132,21 +107,22 @@ fn checked(top: u128, divider: u64, guess: u64) -> Option<Quotient>
     })
 }
 
-// Returns a magnitude with at most 26 digits after the point in units of 2^-24 km, where the guess is right, else
-// none.
+// Returns a magnitude of km with at most 26 digits after the point in units of 2^-24 km, rounded down, and the rest.
+// None if the guess of the quotient is wrong, so that a slower way has to be taken.
 #[inline(always)]
-fn near_quotient(size: u64, places: usize) -> Option<Quotient>
+fn quotient_by_guess(size: u64, places: usize) -> Option<Quotient>
     requires { places ≤ MAX_PLACES }
     ensures { IfSome result (λ q. IsQuotient size places q.quotient q.left) }
 {
-    let top = u128::from(size) * u128::from(unit(places));
-    checked(top, divider(places), guess(size, places))
+    let top = u128::from(size) * u128::from(unit_numerator(places));
+    check_guess(top, unit_denominator(places), guess_quotient(size, places))
 }
 
-// Returns a magnitude with more than 26 digits after the point in units of 2^-24 km: 0, with the magnitude as its
-// rest.
+// Returns a magnitude of km with more than 26 digits after the point in units of 2^-24 km. A number of 64 bits is
+// then below one unit, so the quotient is 0, and the magnitude is the rest. Only the contract reads `places`, so `let
+// _places` keeps it from being unused.
 #[inline(always)]
-fn tiny_quotient(size: u64, places: usize) -> Quotient
+fn quotient_below_one(size: u64, places: usize) -> Quotient
     requires { MAX_PLACES < places }
     ensures { IsQuotient size places result.quotient result.left }
 {
@@ -157,22 +133,22 @@ fn tiny_quotient(size: u64, places: usize) -> Quotient
     }
 }
 
-// Returns a magnitude with `places` digits after the point in units of 2^-24 km. None where the guess of the quotient
-// is wrong.
+// Returns a magnitude of km with `places` digits after the point in units of 2^-24 km, rounded down, and the rest.
+// None if the guess of the quotient is wrong, so that a slower way has to be taken.
 #[inline(always)]
-fn quotient_of(size: u64, places: usize) -> Option<Quotient>
+fn quotient_in_units(size: u64, places: usize) -> Option<Quotient>
     ensures { IfSome result (λ q. IsQuotient size places q.quotient q.left) }
 {
     if places > MAX_PLACES {
-        Some(tiny_quotient(size, places))
+        Some(quotient_below_one(size, places))
     } else {
-        near_quotient(size, places)
+        quotient_by_guess(size, places)
     }
 }
 
-// Returns the quotient rounded up.
+// Returns a quotient that was rounded down as one that is rounded up: the same if its rest is 0, else one more.
 #[inline(always)]
-fn raised(q: &Quotient) -> u64
+fn ceil_quotient(q: &Quotient) -> u64
     requires { q.now.quotient ≤ 2 ^ 60 }
     ensures exact { q.now.left ≡ 0 → result ≡ q.now.quotient }
     ensures next { 1 ≤ q.now.left → result ≡ q.now.quotient + 1 }
@@ -185,15 +161,16 @@ fn raised(q: &Quotient) -> u64
     }
 }
 
-// Returns the pair of a number, rounded down and up, from its magnitude in units.
+// Returns the rounded pair of a number, from its magnitude in units of 2^-24 km, rounded down, with the rest. If the
+// number is below 0, the ends are negated and change places.
 #[inline(always)]
-fn outward(number: Decimal, q: &Quotient) -> Rounded
+fn pair_of_quotient(number: Decimal, q: &Quotient) -> Rounded
     requires small { q.now.quotient ≤ 2 ^ 60 }
     requires is { IsOf number q.now.quotient q.now.left }
     ensures { result ≡ pair_of number }
 {
     let low = q.quotient as i64;
-    let high = raised(q) as i64;
+    let high = ceil_quotient(q) as i64;
     if number.mant < 0 {
         Rounded {
             lo: -high,
@@ -204,18 +181,18 @@ fn outward(number: Decimal, q: &Quotient) -> Rounded
     }
 }
 
-/// Rounds a number of km, in units of 2^-24 km, where it is below 2^36 by its exponent and one multiplication tells
-/// the rest. None says nothing of the number.
+/// Rounds a number of km down and up to units of 2^-24 km, if its exponent alone tells that it is below 2^36 km and
+/// one multiplication finds its quotient. None says nothing of the number: callers then take a slower way.
 #[inline(always)]
-pub fn quick_pair(number: Decimal) -> Option<Rounded>
+pub fn rounded_pair_by_guess(number: Decimal) -> Option<Rounded>
     ensures { IfSome result (λ p. IsRounded number (Some p)) }
 {
     if number.exp > SMALL_EXPONENT {
         return None;
     }
-    let q = quotient_of(
+    let q = quotient_in_units(
         number.mant.unsigned_abs(),
         number.exp.unsigned_abs() as usize,
     )?;
-    Some(outward(number, &q))
+    Some(pair_of_quotient(number, &q))
 }

@@ -14,7 +14,8 @@ use std::alloc::AllocError;
 // The greatest exponent of 10 at which every number of 64 bits is below 2^36.
 pub(crate) const SMALL_EXPONENT: i16 = -9;
 
-/// Returns a number of km below 2^36 in magnitude, rounded down and up to a whole number of units of 2^-24 km.
+/// Returns a number of km, below 2^36 in magnitude, rounded down and rounded up to a whole number of units of 2^-24
+/// km.
 pub fn pair_of(number: Decimal) -> Rounded
     requires { IsDistance number.mant number.exp }
     ensures { result ≡ pair_of number }
@@ -26,30 +27,31 @@ pub fn pair_of(number: Decimal) -> Rounded
     }
 }
 
-// Tells whether a number of km is below 2^36 in magnitude. By its exponent alone that is often known.
+// Tells whether a number of km is below 2^36 in magnitude. An exponent of at most -9 tells so without a computation.
 #[tactic(auto, using(crate::proofs::Small::small_below))]
 #[inline(always)]
-fn is_small(number: Decimal) -> bool
+fn is_below_distance_limit(number: Decimal) -> bool
     ensures { IsTrue result ↔ IsDistance number.mant number.exp }
 {
     number.exp <= SMALL_EXPONENT || is_distance(number.mant, number.exp)
 }
 
-/// Returns a number of km, rounded down and up to units of 2^-24 km. None where it is not below 2^36 in magnitude.
+/// Returns a number of km, rounded down and rounded up to units of 2^-24 km. None if its magnitude is 2^36 km or
+/// more.
 pub fn rounded(number: Decimal) -> Option<Rounded>
     ensures { IsRounded number result }
 {
-    if is_small(number) {
+    if is_below_distance_limit(number) {
         Some(pair_of(number))
     } else {
         None
     }
 }
 
-// Returns the pair that is kept beside a number: its rounded pair, or zeros. A number that could not be rounded is no
-// number of a body, so its zeros are never read.
+// Returns the pair that is kept beside a number: its rounded pair, or zeros if it has none. A number without a
+// rounded pair is none of a body, so that its zeros are never read.
 #[inline(always)]
-pub(crate) fn kept_pair(rounded: Option<Rounded>) -> Rounded
+pub(crate) fn pair_or_zeros(rounded: Option<Rounded>) -> Rounded
     ensures { (number : Decimal) → IsRounded number rounded → IsPair number result }
 {
     match rounded {
@@ -58,7 +60,7 @@ pub(crate) fn kept_pair(rounded: Option<Rounded>) -> Rounded
     }
 }
 
-// Appends a pair for which there is room, so that it does not fail.
+// Appends a pair to a vector that has room for it, so that the call never fails.
 #[inline(always)]
 pub(crate) fn push_pair(pairs: &mut Vec<Rounded>, pair: Rounded) -> Result<(), AllocError>
     requires room { vec_len pairs.old < vec_capacity pairs.old }
@@ -69,7 +71,8 @@ pub(crate) fn push_pair(pairs: &mut Vec<Rounded>, pair: Rounded) -> Result<(), A
     Ok(())
 }
 
-// Appends the rounded pairs of numbers for which there is room, so that it does not fail.
+// Appends the rounded pairs of these numbers to a vector that has room for them, so that the call never fails. A
+// number without one gets a pair of zeros.
 pub(crate) fn push_pairs(pairs: &mut Vec<Rounded>, numbers: &[Decimal]) -> Result<(), AllocError>
     requires room { vec_len pairs.old + length numbers.now ≤ vec_capacity pairs.old }
     ensures done { IsOk result }
@@ -77,7 +80,7 @@ pub(crate) fn push_pairs(pairs: &mut Vec<Rounded>, numbers: &[Decimal]) -> Resul
         → ArePairs (before ++ numbers.now) pairs.new.items) }
 {
     for &number in numbers {
-        pairs.push(kept_pair(rounded(number)))?;
+        pairs.push(pair_or_zeros(rounded(number)))?;
     }
     Ok(())
 }

@@ -6,7 +6,7 @@ ghost use Rattle.spec_ephemeris.specs.Ephemeris.{IsBlock, IsEphemeris, IsStart, 
 ghost use Rattle.eph_model.specs.Stores.{IsRounded, closed, cut_to, store_starting_at, with_number};
 
 use crate::ephemeris::{Ephemeris, Memory};
-use crate::rounding::{kept_pair, push_pair};
+use crate::rounding::{pair_or_zeros, push_pair};
 use spec_ephemeris::{Header, Rounded};
 use spec_text::Decimal;
 use std::alloc::Global;
@@ -66,22 +66,23 @@ impl BlockStore {
         }
     }
 
-    // Returns how many numbers the whole blocks have, together.
-    fn whole(&self) -> usize
+    // Returns how many numbers the whole blocks have together. The numbers of a block that was started stand after
+    // these.
+    fn whole_block_number_count(&self) -> usize
         ensures { result ≡ length self.now.accepted.numbers }
     {
         self.blocks as usize * self.header.ncoeff as usize
     }
 
-    /// Returns how many numbers of the block that was started are there.
+    /// Returns how many numbers of the block that was started are in the store.
     pub fn count(&self) -> usize
         ensures { result ≡ length self.now.numbers }
     {
-        self.numbers.len() - self.whole()
+        self.numbers.len() - self.whole_block_number_count()
     }
 
-    /// Adds a number, with its rounded pair, to the block that was started: a Julian date or a coefficient in km.
-    /// After `Memory` nothing has changed.
+    /// Adds a number, a Julian date or a coefficient in km, to the block that was started, with its pair, rounded
+    /// outward. Without a pair, zeros are kept beside the number. After `Memory` nothing has changed.
     #[inline(always)]
     pub fn push(&mut self, number: Decimal, rounded: Option<Rounded>) -> Result<(), Memory>
         requires { IsRounded number rounded }
@@ -90,11 +91,11 @@ impl BlockStore {
     {
         self.pairs.reserve(1)?;
         self.numbers.push(number)?;
-        push_pair(&mut self.pairs, kept_pair(rounded))?;
+        push_pair(&mut self.pairs, pair_or_zeros(rounded))?;
         Ok(())
     }
 
-    /// Drops all numbers of the block that was started but the first `count`.
+    /// Drops all numbers of the block that was started but the first `count`. The whole blocks stay.
     pub fn truncate(&mut self, count: usize)
         requires { count ≤ length self.old.numbers }
         ensures { self.new ≡ cut_to count self.old }
@@ -105,8 +106,8 @@ impl BlockStore {
         self.pairs.truncate(kept);
     }
 
-    /// Makes the block that was started one of the whole blocks, after the last: its two Julian dates, and the
-    /// coefficients of its columns.
+    /// Counts the block that was started as one of the whole blocks, after the last. Its numbers have to be whole:
+    /// two Julian dates, and the coefficients of its columns.
     pub fn close_block(&mut self)
         requires block { IsBlock self.old.accepted.header self.old.numbers }
         requires room { self.old.accepted.blocks < MAX_BLOCKS }
@@ -115,7 +116,7 @@ impl BlockStore {
         self.blocks += 1;
     }
 
-    /// Lets the first block start at this time, and the others after it.
+    /// Sets the time at which the first block starts, in seconds of TDB since J2000. The others follow it.
     pub fn start_at(&mut self, start: i64)
         requires { IsStart start }
         ensures { self.new ≡ store_starting_at self.old start }
@@ -123,7 +124,8 @@ impl BlockStore {
         self.start = start;
     }
 
-    /// Returns the time at which the last of the whole blocks ends.
+    /// Returns the time at which the last of the whole blocks ends, in seconds of TDB since J2000. Without a block it
+    /// is the start.
     pub fn end(&self) -> i64
         ensures { result ≡ end_of self.now.accepted }
     {
@@ -137,7 +139,7 @@ impl BlockStore {
         self.blocks
     }
 
-    /// Returns the header, which meets the rules.
+    /// Returns the header, which meets the rules. The clause `checked` gives callers what holds for the whole blocks.
     pub fn header(&self) -> &Header
         ensures same { result.now ≡ self.now.accepted.header }
         ensures checked { IsEphemeris self.now.accepted }
@@ -145,11 +147,11 @@ impl BlockStore {
         &self.header
     }
 
-    /// Returns the ephemeris of the whole blocks, without the numbers of a block that was started.
+    /// Returns the ephemeris of the whole blocks. The numbers of a block that was started are dropped.
     pub fn finish(self) -> Ephemeris
         ensures { result ≡ self.accepted }
     {
-        let whole = self.whole();
+        let whole = self.whole_block_number_count();
         let mut numbers = self.numbers;
         let mut pairs = self.pairs;
         numbers.truncate(whole);

@@ -14,6 +14,7 @@ use Rattle.spec_bounds.proofs.Within.{factor-within}
 use Rattle.spec_steps.specs.ColumnTerms.{ColumnTerm, sight_of}
 use Rattle.spec_steps.specs.Meanings.{bound_meant}
 use Rattle.spec_steps.specs.Parts.{IsPart}
+use Rattle.column_steps.specs.Values.{AreOperands}
 use Rattle.event_bounds.specs.declared.bound.Bound.{Bound as Made}
 use Rattle.event_bounds.specs.declared.spans.Span.{Span}
 use Rattle.event_bounds.specs.Made.{IsBound, IsMadeWithin}
@@ -31,6 +32,15 @@ AreLimited = (v : View) (t : ColumnTerm) (a b : ℤ) → IsPart (sight_of v) t �
 module _ (s : Span) (right : IsSpanRight s) where
   pub part_within : AreLimited → (t : ColumnTerm) → IsPart (sight_of s.states.now) t → (made : Made) → IsBoundOf s t made → IsMadeWithin part_exponent made
   part_within limits t part made is = made_within part_exponent made _ is (limits s.states.now t s.times.span.now.first s.times.span.now.last part right.fits)
+
+  -- ---- two operands, by what the parts of such a term are
+  module _ (limits : AreLimited) (whole : ColumnTerm → ColumnTerm → ColumnTerm) (parts : (p q : ColumnTerm) → IsPart (sight_of s.states.now) (whole p q) → IsPart (sight_of s.states.now) p × IsPart (sight_of s.states.now) q)
+      (x y : Made) (of : AreOperands (sight_of s.states.now) (λ t made. IsBoundOf s t made) whole x y) where
+    pub first_within : IsMadeWithin part_exponent x
+    first_within = part_within limits of.first (parts of.first of.second of.part).0 x of.of_first
+
+    pub second_within : IsMadeWithin part_exponent y
+    second_within = part_within limits of.second (parts of.first of.second of.part).1 y of.of_second
 
   -- ---- factors
   pub factor_part : (f : Factor) (r : Interval) → r ≡ factor_interval (factor_of s.states.now f) → IsWithin part_exponent r

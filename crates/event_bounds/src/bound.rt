@@ -27,23 +27,22 @@ pub struct Bound {
 }
 
 impl<'t> BoundTimes<'t> {
-    /// Returns the bound with a range and steps. Most ranges keep their unit, which exponents alone show; the
-    /// others are coarsened.
+    /// Returns the bound with a range and steps over these times. A range whose unit is far finer than what its steps
+    /// reach is coarsened. Of most ranges exponents alone show that they keep their unit, which saves work.
     pub fn bound(&self, range: Ival, step: Ival) -> Bound
         requires range { IsWithin wide_exponent range }
         requires step { IsWithin wide_exponent step }
         ensures { IsBound result (bound self.now.span.now.first self.now.span.now.last range step) }
     {
-        if is_fine(&range, &step) {
+        if keeps_unit(&range, &step) {
             Bound { range, step }
         } else {
-            self.coarsened(range, step)
+            self.coarsened_bound(range, step)
         }
     }
 
-    // Returns the bound with a range and steps. The range is coarsened to an exponent of at least 60 less than that
-    // of what steps reach from any value in it.
-    fn coarsened(&self, range: Ival, step: Ival) -> Bound
+    // Returns the bound, with the range coarsened to at least the exponent of what steps reach from it, less 60.
+    fn coarsened_bound(&self, range: Ival, step: Ival) -> Bound
         requires range { IsWithin wide_exponent range }
         requires step { IsWithin wide_exponent step }
         ensures { IsBound result (bound self.now.span.now.first self.now.span.now.last range step) }
@@ -53,7 +52,7 @@ impl<'t> BoundTimes<'t> {
         Bound { range, step }
     }
 
-    /// Returns the bound of a constant: its range is the interval, and its steps are 0.
+    /// Returns the bound of a constant over these times: its range is the constant's interval, and its steps are 0.
     pub fn constant(&self, value: Ival) -> Bound
         requires { IsWithin part_exponent value }
         ensures { IsBound result (constant_bound self.now.span.now.first self.now.span.now.last value) }
@@ -109,7 +108,7 @@ impl<'t> BoundTimes<'t> {
     }
 }
 
-// Returns the exponent that is 60 below that of an interval.
+// Returns an interval's exponent less 60, the least exponent that is kept of a range whose steps are this interval.
 fn exponent_below(x: &Ival) -> i32
     requires { IsExponent x.now.s }
     ensures { result ≡ x.now.s -ℤ pos lift_limit }
@@ -117,25 +116,24 @@ fn exponent_below(x: &Ival) -> i32
     x.parts().2 - LIFT_LIMIT
 }
 
-// Tells whether exponents alone show that a range keeps its unit beside its steps. What steps reach is then less
-// than 2^60 times coarser.
-fn is_fine(range: &Ival, step: &Ival) -> bool
+// Tells whether exponents show that what steps reach is under 2^60 times as coarse as the range. `false` says nothing.
+fn keeps_unit(range: &Ival, step: &Ival) -> bool
     requires range { IsWithin wide_exponent range.now }
     requires step { IsWithin wide_exponent step.now }
     ensures { IsTrue result → IsFine range.now step.now }
 {
-    is_some(range) && FINE_EXPONENT <= exponent(range) && exponent(step) + 4 <= exponent(range)
+    is_nonzero(range) && FINE_EXPONENT <= exponent(range) && exponent(step) + 4 <= exponent(range)
 }
 
-// Tells whether an interval has a number other than 0.
-fn is_some(x: &Ival) -> bool
+// Tells whether an interval has a number other than 0. Only such an interval has an exponent that means something.
+fn is_nonzero(x: &Ival) -> bool
     ensures { IsTrue result → is_zero x.now ≡ false }
 {
     let (lo, hi, _) = x.parts();
     lo < 0 || 0 < hi
 }
 
-// Returns the exponent of 2 of an interval's unit.
+// Returns the exponent of 2 of the unit in which an interval's ends are.
 fn exponent(x: &Ival) -> i32
     ensures { result ≡ x.now.s }
 {

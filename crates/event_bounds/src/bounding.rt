@@ -16,8 +16,11 @@ use event_expr::rules::TimeSpan;
 use ival_core::Ival;
 use spec_steps::laws::terms_mean_their_formulas;
 
-/// The number of slots where these are enough, as they are for most formulas. Fewer slots take less time to clear.
-const FEW_STEPS: usize = 64;
+/// The number of slots that is enough for most formulas: fewer take less time to clear. They are less than 2,048 bytes.
+const FEW_STEPS: usize = 42;
+
+/// The number of slots for longer formulas, as for the extremes of separations, which have up to 91 steps.
+const MANY_STEPS: usize = 96;
 
 /// Returns the bound of the formula for which a step of a list stands, over the times from `a` to `b`. Times are in
 /// the unit of the ephemeris that the states read. Parts that are the same are bounded once.
@@ -46,11 +49,11 @@ pub fn bound_over(listed: StepPlace, states: &BodyStates, a: i64, b: i64) -> Bou
         position: &position,
         velocity: &velocity,
     };
-    bound_of(&span, steps, place)
+    step_bound(&span, steps, place)
 }
 
-// Returns the bound of the term of a step, by 64 slots where these are enough, and else by 256.
-fn bound_of(span: &Span, steps: &StepList, place: usize) -> Bound
+// Returns the bound of a step's term, by the fewest of 42, 96 and 256 slots that are enough for the steps up to it.
+fn step_bound(span: &Span, steps: &StepList, place: usize) -> Bound
     requires ready { IsSpanRight span.now }
     requires sight { steps.now.sight ≡ sight_of span.now.states.now }
     requires step { place < step_count steps.now }
@@ -58,15 +61,17 @@ fn bound_of(span: &Span, steps: &StepList, place: usize) -> Bound
     ensures { IsBoundOf span.now (listed_term steps.now place) result }
 {
     if place < FEW_STEPS {
-        bound_by::<FEW_STEPS>(span, steps, place)
+        step_bound_by_slots::<FEW_STEPS>(span, steps, place)
+    } else if place < MANY_STEPS {
+        step_bound_by_slots::<MANY_STEPS>(span, steps, place)
     } else {
-        bound_by::<MAX_STEPS>(span, steps, place)
+        step_bound_by_slots::<MAX_STEPS>(span, steps, place)
     }
 }
 
-// Returns the bound of the term of a step by `N` slots, one for it and for each step before it.
+// Returns the bound of a step's term by `N` slots, for it and those before. Not inlined, to clear these slots alone.
 #[inline(never)]
-fn bound_by<const N: usize>(span: &Span, steps: &StepList, place: usize) -> Bound
+fn step_bound_by_slots<const N: usize>(span: &Span, steps: &StepList, place: usize) -> Bound
     requires ready { IsSpanRight span.now }
     requires sight { steps.now.sight ≡ sight_of span.now.states.now }
     requires step { place < step_count steps.now }
@@ -74,16 +79,9 @@ fn bound_by<const N: usize>(span: &Span, steps: &StepList, place: usize) -> Boun
     requires few { N ≤ 256 }
     ensures { IsBoundOf span.now (listed_term steps.now place) result }
 {
-    let mut slots = [blank(); N];
+    let zero = Ival::zero();
+    let (range, step) = (zero, zero);
+    let mut slots = [Bound { range, step }; N];
     fill(span, steps, 0, place + 1, &mut slots);
     slots[place]
-}
-
-// Returns a bound to be written over, with 0 in both parts.
-fn blank() -> Bound {
-    let zero = Ival::zero();
-    Bound {
-        range: zero,
-        step: zero,
-    }
 }

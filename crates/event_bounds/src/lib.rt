@@ -1,10 +1,8 @@
-//! Bounds of what is seen of two bodies over a span of times: they include the enclosures over every span within
-//! it.
+//! Bounds of what is seen of two bodies over a span of times: they include the enclosures over every span within it.
 //!
-//! In come the states of two bodies, a list of steps over their columns, the number of a step, and a span between
-//! whose times no granule begins. Out comes the bound of the formula for which the step stands. The ranges of
-//! columns over the span are kept in small tables. The bounds of the steps up to that one are made one after the
-//! other. No call allocates.
+//! In come the states of two bodies, a list of steps over their columns, a step, and a span between whose times no
+//! granule begins. Out comes the bound of the step's formula. The ranges of columns over the span are kept in small
+//! tables, and the bounds of the steps are made in order. No call allocates.
 #![tactic(auto)]
 
 mod bound;

@@ -23,8 +23,8 @@ pub(crate) struct Span<'s, 't, 'e> {
 }
 
 impl<'s, 't, 'e> Span<'s, 't, 'e> {
-    // Returns the ranges of a quantity of the columns.
-    fn known(&self, quantity: Quantity) -> &ColumnRanges<'s, 'e>
+    // Returns the ranges of the columns' positions or velocities over the times, as the quantity says.
+    fn ranges_of(&self, quantity: Quantity) -> &ColumnRanges<'s, 'e>
         requires { IsSpanRight self.now }
         ensures { IsAsked self.now quantity result.now }
     {
@@ -45,7 +45,7 @@ impl<'s, 't, 'e> Arithmetic for Span<'s, 't, 'e> {
     ghost is_value = { λ s t made. IsBoundOf s t made };
 
     fn column(&self, quantity: Quantity, number: usize, axis: usize) -> Bound {
-        let range = self.known(quantity).of(number, axis);
+        let range = self.ranges_of(quantity).of(number, axis);
         self.times.bound(range.values, range.changes)
     }
 

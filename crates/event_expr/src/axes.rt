@@ -37,14 +37,14 @@ impl Axes {
         }
     }
 
-    /// Returns the axes that are in either set.
+    /// Returns the axes that are in this set, in the other, or in both.
     pub fn union(self, other: Axes) -> Axes
         ensures { result ≡ either_axes self other }
     {
         Axes {
-            x: either(self.x, other.x),
-            y: either(self.y, other.y),
-            z: either(self.z, other.z),
+            x: disjunction(self.x, other.x),
+            y: disjunction(self.y, other.y),
+            z: disjunction(self.z, other.z),
         }
     }
 
@@ -61,8 +61,8 @@ impl Axes {
     }
 }
 
-// Tells whether at least one of two conditions holds.
-fn either(a: bool, b: bool) -> bool
+// Tells whether at least one of two conditions holds. The helper gives each axis of `union` a contract of its own.
+fn disjunction(a: bool, b: bool) -> bool
     ensures { result ≡ (a || b) }
 {
     a || b

@@ -8,8 +8,7 @@ use spec_expressions::{Expr, Vector};
 use spec_text::Decimal;
 use std::alloc::{AllocError, Global};
 
-/// Returns the expression of a coordinate of a target's position, in km. Targets are numbered 0 and 1, axes 0, 1 and
-/// 2.
+/// Returns the expression of a coordinate of a target's position, in km, for target 0 or 1 and axis 0, 1 or 2.
 pub fn position(target: u8, axis: u8) -> Expr
     requires target { target < 2 }
     requires axis { axis < 3 }
@@ -19,8 +18,7 @@ pub fn position(target: u8, axis: u8) -> Expr
     Expr::Pos { target, axis }
 }
 
-/// Returns the expression of a coordinate of a target's velocity, in km a tick. Targets are numbered 0 and 1, axes 0,
-/// 1 and 2.
+/// Returns the expression of a coordinate of a target's velocity, in km a tick, for target 0 or 1 and axis 0, 1 or 2.
 pub fn velocity(target: u8, axis: u8) -> Expr
     requires target { target < 2 }
     requires axis { axis < 3 }
@@ -43,7 +41,7 @@ pub fn coordinate(vector: Vector, axis: u8) -> Expr
     }
 }
 
-/// Returns the expression of a constant length, in km.
+/// Returns the expression of a constant length, in km. Whether it is in range is tested by `Formula::new`.
 pub fn length(km: Decimal) -> Expr
     ensures built { term result ≡ length km }
     ensures leaves { HasLeaves (term result) }
@@ -51,7 +49,7 @@ pub fn length(km: Decimal) -> Expr
     Expr::Length(km)
 }
 
-/// Returns the expression of a constant cosine, a number without a unit.
+/// Returns the expression of a constant cosine, without a unit. Whether it is in range is tested by `Formula::new`.
 pub fn cosine(number: Decimal) -> Expr
     ensures built { term result ≡ cosine number }
     ensures leaves { HasLeaves (term result) }
@@ -59,7 +57,7 @@ pub fn cosine(number: Decimal) -> Expr
     Expr::Cosine(number)
 }
 
-/// Returns the expression of a sum. The only error is out of memory.
+/// Returns the expression of the sum of two expressions. The only error is out of memory.
 pub fn sum(alloc: Global, x: Expr, y: Expr) -> Result<Expr, AllocError>
     ensures built { IfOk result (λ e. term e ≡ sum (term x) (term y)) }
     ensures leaves { HasLeaves (term x) → HasLeaves (term y)
@@ -77,7 +75,7 @@ pub fn difference(alloc: Global, x: Expr, y: Expr) -> Result<Expr, AllocError>
     Ok(Expr::Sub(Box::new(alloc, x)?, Box::new(alloc, y)?))
 }
 
-/// Returns the expression of a product. The only error is out of memory.
+/// Returns the expression of the product of two expressions. The only error is out of memory.
 pub fn product(alloc: Global, x: Expr, y: Expr) -> Result<Expr, AllocError>
     ensures built { IfOk result (λ e. term e ≡ product (term x) (term y)) }
     ensures leaves { HasLeaves (term x) → HasLeaves (term y)
@@ -86,7 +84,7 @@ pub fn product(alloc: Global, x: Expr, y: Expr) -> Result<Expr, AllocError>
     Ok(Expr::Mul(Box::new(alloc, x)?, Box::new(alloc, y)?))
 }
 
-/// Returns the expression of the signed square `x |x|`. The only error is out of memory.
+/// Returns the expression of an operand times its own magnitude, a signed square. The only error is out of memory.
 pub fn signed_square(alloc: Global, x: Expr) -> Result<Expr, AllocError>
     ensures built { IfOk result (λ e. term e ≡ signed_square (term x)) }
     ensures leaves { HasLeaves (term x) → IfOk result (λ e. HasLeaves (term e)) }
@@ -102,7 +100,7 @@ pub fn squared_length(alloc: Global, km: Decimal) -> Result<Expr, AllocError>
     product(alloc, length(km), length(km))
 }
 
-/// Returns the expression of the product of two vectors' coordinates on one axis. The only error is out of memory.
+/// Returns the expression of a product of two vectors' coordinates on axis 0, 1 or 2. The only error is out of memory.
 fn product_on_axis(alloc: Global, u: Vector, v: Vector, axis: u8) -> Result<Expr, AllocError>
     requires u { IsVector u }
     requires v { IsVector v }

@@ -34,7 +34,7 @@ impl Leaves {
         }
     }
 
-    /// Returns the set of the coordinates of one vector along some axes.
+    /// Returns the set of the coordinates of one vector along these axes, and no other.
     pub fn only(vector: Vector, axes: Axes) -> Leaves
         requires { IsVector vector }
         ensures { result ≡ only vector axes }
@@ -49,7 +49,7 @@ impl Leaves {
         leaves
     }
 
-    /// Returns the coordinates that are in either set.
+    /// Returns the coordinates that are in this set, in the other, or in both.
     pub fn union(self, other: Leaves) -> Leaves
         ensures { result ≡ either_leaves self other }
     {
@@ -62,8 +62,8 @@ impl Leaves {
     }
 }
 
-/// Returns the set of the coordinates that an expression names.
-pub(crate) fn leaves_of(expr: &Expr) -> Leaves
+/// Returns the set of the coordinates of the targets' positions and velocities that stand in an expression.
+pub(crate) fn leaves_in(expr: &Expr) -> Leaves
     requires { HasLeaves (term expr.now) }
     ensures { result ≡ leaves_of (term expr.now) }
 {
@@ -71,7 +71,7 @@ pub(crate) fn leaves_of(expr: &Expr) -> Leaves
         Expr::Pos { target, axis } => Leaves::only(Vector::Position(*target), Axes::one(*axis)),
         Expr::Vel { target, axis } => Leaves::only(Vector::Velocity(*target), Axes::one(*axis)),
         Expr::Length(_) | Expr::Cosine(_) => Leaves::none(),
-        Expr::Add(x, y) | Expr::Sub(x, y) | Expr::Mul(x, y) => leaves_of(x).union(leaves_of(y)),
-        Expr::SignedSquare(x) => leaves_of(x),
+        Expr::Add(x, y) | Expr::Sub(x, y) | Expr::Mul(x, y) => leaves_in(x).union(leaves_in(y)),
+        Expr::SignedSquare(x) => leaves_in(x),
     }
 }

@@ -1,9 +1,8 @@
 //! Expressions of the coordinates of two bodies, with two meanings, and the enclosure of one over any states.
 //!
-//! In comes a formula, which is an expression within limits, with states that answer an enclosure for each coordinate
-//! over a span of times; out comes the enclosure of the formula over that span. It holds the exact value in the middle,
-//! at each time and from each time to the next. No call allocates but the builders, and the states are asked once for
-//! each leaf. A formula says which coordinates it names, so that states need make no others.
+//! In come a formula, an expression within limits, and states that enclose each coordinate over a span; out comes the
+//! formula's enclosure, which holds the exact value in the middle and at each time, and each change. Only the builders
+//! allocate. States are asked once for each leaf, and a formula says which coordinates it names.
 #![tactic(auto)]
 
 mod axes;

@@ -33,7 +33,7 @@ impl Model for TimeSpan {
 }
 
 impl TimeSpan {
-    /// Makes the span from `first` to `last`, both at most 2^50 in magnitude and in this order.
+    /// Makes the span from `first` to `last`, at most 2^50 in magnitude, with the ends' distances from the middle.
     #[inline(always)]
     pub fn new(first: i64, last: i64) -> TimeSpan
         requires { IsSpan first last }
@@ -41,7 +41,7 @@ impl TimeSpan {
         ensures last { result.last ≡ last }
     {
         let middle = middle(first, last);
-        let distances = Ival::of(distance(first, middle), distance(last, middle), 0);
+        let distances = Ival::of(time_after(first, middle), time_after(last, middle), 0);
         TimeSpan {
             first,
             last,
@@ -65,7 +65,7 @@ impl TimeSpan {
         self.last
     }
 
-    /// Returns the interval from the first time's distance from the middle, at most 0, to the last time's.
+    /// Returns the interval of the times' distances from the middle, in ticks: from the first, at most 0, to the last.
     #[inline(always)]
     pub fn distances(&self) -> Ival
         ensures { result ≡ offsets self.now.first self.now.last }
@@ -73,8 +73,7 @@ impl TimeSpan {
         self.distances
     }
 
-    /// Returns the enclosure of a constant, from an interval that holds some number. Since nothing changes, the
-    /// values that are reached from the middle are the constant itself, with the exponent 0 where it is 0.
+    /// Returns a constant's enclosure. Over several times its change 0 is added to the range, so a zero has exponent 0.
     #[inline(always)]
     pub fn constant(&self, value: Ival) -> Enclosure
         requires within { IsWithin part_exponent value }
@@ -93,7 +92,7 @@ impl TimeSpan {
         }
     }
 
-    /// Returns the enclosure of a sum.
+    /// Returns the enclosure of the sum of two operands, from their enclosures over this span.
     #[tactic(auto, unfolding(spec_intervals::specs::Enclosure::sum_of))]
     #[inline(always)]
     pub fn sum(&self, x: Enclosure, y: Enclosure) -> Enclosure
@@ -111,7 +110,7 @@ impl TimeSpan {
         }
     }
 
-    /// Returns the enclosure of the first operand less the second.
+    /// Returns the enclosure of the first operand less the second, from their enclosures over this span.
     #[tactic(auto, unfolding(spec_intervals::specs::Enclosure::difference_of))]
     #[inline(always)]
     pub fn difference(&self, x: Enclosure, y: Enclosure) -> Enclosure
@@ -129,8 +128,8 @@ impl TimeSpan {
         }
     }
 
-    /// The product. Its change is `x' (y' - y) + y (x' - x)`, with the later value of the first operand. It stands alone,
-    /// since it is large where it is inlined.
+    /// Returns the enclosure of the product of two operands. From one time to the next the product changes by
+    /// `x' (y' - y) + y (x' - x)`, with `x'` and `y'` the later values. The call is large, and so it is not inlined.
     #[inline(never)]
     pub fn product(&self, x: Enclosure, y: Enclosure) -> Enclosure
         requires x_within { AllWithin part_exponent x }
@@ -148,8 +147,7 @@ impl TimeSpan {
         }
     }
 
-    /// Returns the enclosure of a signed square `x |x|`. Its change lies between 0 and the change of `x` times twice
-    /// the greatest magnitude of `x`.
+    /// Returns the enclosure of `x |x|`, whose change is between 0 and that of `x` times twice the greatest `|x|`.
     #[inline(always)]
     pub fn signed_square(&self, x: Enclosure) -> Enclosure
         requires within { AllWithin part_exponent x }
@@ -165,7 +163,7 @@ impl TimeSpan {
         }
     }
 
-    /// There is more than one time.
+    /// Tells whether the span has more than one time.
     #[inline(always)]
     pub fn has_several(&self) -> bool
         ensures { result ≡ lt_z self.now.first self.now.last }
@@ -173,8 +171,7 @@ impl TimeSpan {
         self.first < self.last
     }
 
-    /// Returns the enclosure at a single time: the range is the mid, and nothing changes, whatever the other parts
-    /// would be.
+    /// Returns the enclosure over a span of one time: its range is `mid`, the interval of the value, and its change 0.
     #[inline(always)]
     pub fn single(&self, mid: Ival) -> Enclosure
         requires { lt_z self.now.first self.now.last ≡ false }
@@ -188,8 +185,8 @@ impl TimeSpan {
         }
     }
 
-    /// Returns the enclosure over several times. Its range is the intersection of the plain range with what steps
-    /// reach from the middle.
+    /// Returns the enclosure over several times from intervals of the value in the middle, of the values by an
+    /// operation's rule (`plain`) and of the changes (`step`). Its range is the part of `plain` that changes reach.
     #[inline(always)]
     pub fn wide(&self, mid: Ival, plain: Ival, step: Ival) -> Enclosure
         requires several { lt_z self.now.first self.now.last ≡ true }
@@ -208,7 +205,7 @@ impl TimeSpan {
     }
 }
 
-/// The time halfway, or the last before it.
+/// Returns the time halfway between the first and the last of a span, rounded down to a whole number.
 #[inline(always)]
 fn middle(first: i64, last: i64) -> i64
     requires { IsSpan first last }
@@ -217,27 +214,27 @@ fn middle(first: i64, last: i64) -> i64
     (first + last).div_euclid(2)
 }
 
-/// Returns by how much `time` is after `origin`; it is below 0 where it is before.
+/// Returns by how much `time` is after `origin`, in ticks. It is below 0 if `time` is before `origin`.
 #[inline(always)]
-fn distance(time: i64, origin: i64) -> i128
+fn time_after(time: i64, origin: i64) -> i128
     ensures { result ≡ time -ℤ origin }
 {
     time as i128 - origin as i128
 }
 
-/// Returns the interval from 0 to twice the greatest magnitude in a range.
+/// Returns the interval from 0 to twice the greatest magnitude in a range: the slopes of a signed square over it.
 #[inline(always)]
 pub fn twice_size(range: Ival) -> Ival
     requires { IsWithin part_exponent range }
     ensures { result ≡ twice_size range }
 {
     let (lo, hi, s) = range.parts();
-    Ival::of(0, doubled_size(lo, hi), s)
+    Ival::of(0, twice_greater_magnitude(lo, hi), s)
 }
 
-/// Returns twice the greater magnitude of two ends.
+/// Returns twice the greater magnitude of the two ends of an interval.
 #[inline(always)]
-fn doubled_size(lo: i128, hi: i128) -> i128
+fn twice_greater_magnitude(lo: i128, hi: i128) -> i128
     requires lo_small { unsigned_abs lo ≤ end_limit }
     requires hi_small { unsigned_abs hi ≤ end_limit }
     ensures { result ≡ pos (2 * max (unsigned_abs lo) (unsigned_abs hi)) }
@@ -245,7 +242,7 @@ fn doubled_size(lo: i128, hi: i128) -> i128
     (2 * lo.unsigned_abs().max(hi.unsigned_abs())) as i128
 }
 
-/// A constant length, in km.
+/// Returns the interval of a length, below 2^36 km in magnitude, rounded down and up to units of 2^-24 km.
 #[inline(always)]
 pub fn length_interval(km: Decimal) -> Ival
     requires { IsDistance km.mant km.exp }
@@ -256,7 +253,7 @@ pub fn length_interval(km: Decimal) -> Ival
     Ival::from_decimal(km.mant, km.exp, DISTANCE_EXPONENT)
 }
 
-/// A constant from -1 to 1.
+/// Returns the interval of a cosine, at most 1 in magnitude, rounded down and up to units of 2^-60.
 #[inline(always)]
 pub fn cosine_interval(number: Decimal) -> Ival
     requires { IsCosine number.mant number.exp }

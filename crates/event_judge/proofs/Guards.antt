@@ -63,6 +63,10 @@ slot_below : (number : Option ℕ) (last n : ℕ) → last < n → IfSome number
 slot_below None last n below few = few
 slot_below (Some k) last n below few = omega (arith, below, few)
 
+pub slot_upto : (number : Option ℕ) (last n : ℕ) → last ≤ n → IfSome number (λ k. k ≤ last) → IfSome number (λ k. k ≤ n)
+slot_upto None last n upto few = few
+slot_upto (Some k) last n upto few = omega (arith, upto, few)
+
 slots_below : (l : ListedEvent) (last n : ℕ) → last < n → IfSome l.first (λ k. k ≤ last) → IfSome l.second (λ k. k ≤ last) → (place : ℕ) → IfSome (place_of l place) (λ k. k < n)
 slots_below l last n below first second zero = slot_below l.first last n below first
 slots_below l last n below first second (suc zero) = slot_below l.second last n below second

@@ -1,7 +1,6 @@
 mod Near
 mod Looking
 mod Remembered
-mod Middles
 mod QuietSpans
 mod Guards
 mod Bounds

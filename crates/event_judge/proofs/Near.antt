@@ -11,7 +11,9 @@ use Rattle.spec_searches.specs.Search.{Search, border_in, crosses, may_be_cut}
 use Rattle.spec_searches.specs.Found.{rules}
 use Rattle.spec_searches.proofs.Borders.{border_within, span_fits, time_fits}
 use Rattle.spec_searches.proofs.Parts.{can_cut, rules_are_sound}
+use Rattle.spec_ephemeris.specs.Ephemeris.{end_of}
 use Rattle.spec_trees.specs.Tree.{IsSound, IsValid, Rules}
+use Rattle.event_judge.specs.Memory.{IsNear}
 
 module _ (t : Rules) (sound : IsSound t) (n : Node) (valid : IsValid t n) where
   pub a_low : neg_ℤ (pos (2 ^ 50)) ≤ℤ n.a
@@ -29,26 +31,43 @@ module _ (t : Rules) (sound : IsSound t) (n : Node) (valid : IsValid t n) where
   pub width_fits : SFits w64 (n.b -ℤ n.a)
   width_fits = let low = a_low in let high = b_high in let inside = valid.inside in fits_signed_from_abs w64 (n.b -ℤ n.a) (omega (arith, ints, low, high, inside))
 
--- ---- states can be asked for at its ends
-module _ (s : Search) (sound : IsSound (rules s)) (n : Node) (valid : IsValid (rules s) n) (v : View) (same : v ≡ s.view) (is : IsView v) where
-  fits_at : (t : ℤ) → SFits w64 t → n.a ≤ℤ t → t ≤ℤ n.b → Fits v (to_z w64 (of_z w64 t)) (to_z w64 (of_z w64 t))
-  fits_at t fits after upto =
+-- ---- a time of the ephemeris, at which states can be asked for
+pub record IsTime (s : Search) (t : ℤ) : Type 0 where
+  pub from : s.view.ephemeris.start ≤ℤ t
+  pub upto : t ≤ℤ end_of s.view.ephemeris
+  pub near : IsNear t
+
+pub near_fits : (t : ℤ) → IsNear t → SFits w64 t
+near_fits t near = let low = near.low in let high = near.high in fits_signed_from_abs w64 t (omega (arith, ints, low, high))
+
+pub passed_fits : (s : Search) (t : ℤ) → IsNear t → s.view.ephemeris.start ≤ℤ t → t ≤ℤ end_of s.view.ephemeris → (v : View) → v ≡ s.view → IsView v → Fits v (to_z w64 (of_z w64 t)) (to_z w64 (of_z w64 t))
+passed_fits s t near from upto v same is = rw (same, to_z-of_z w64 t (near_fits t near)) (time_fits s.view (subst IsView same is) t from upto)
+
+module _ (s : Search) (sound : IsSound (rules s)) (n : Node) (valid : IsValid (rules s) n) where
+  pub time_within : (t : ℤ) → n.a ≤ℤ t → t ≤ℤ n.b → IsTime s t
+  time_within t after before =
+      let low = a_low (rules s) sound n valid in
+      let high = b_high (rules s) sound n valid in
       let from = valid.from in
       let to = valid.to in
-      rw (same, to_z-of_z w64 t fits) (time_fits s.view (subst IsView same is) t (omega (arith, ints, from, after)) (omega (arith, ints, to, upto)))
+      record {
+        from = omega (arith, ints, from, after);
+        upto = omega (arith, ints, before, to);
+        near = record { low = omega (arith, ints, low, after); high = omega (arith, ints, before, high) };
+      }
 
-  pub first_fits : Fits v (to_z w64 (of_z w64 n.a)) (to_z w64 (of_z w64 n.a))
-  first_fits = let inside = valid.inside in fits_at n.a (a_fits (rules s) sound n valid) (omega (arith, ints)) (omega (arith, ints, inside))
+  pub last_time : IsTime s n.b
+  last_time = let inside = valid.inside in time_within n.b (omega (arith, ints, inside)) (omega (arith, ints))
 
-  pub last_fits : Fits v (to_z w64 (of_z w64 n.b)) (to_z w64 (of_z w64 n.b))
-  last_fits = let inside = valid.inside in fits_at n.b (b_fits (rules s) sound n valid) (omega (arith, ints, inside)) (omega (arith, ints))
+  pub last_fits : (v : View) → v ≡ s.view → IsView v → Fits v (to_z w64 (of_z w64 n.b)) (to_z w64 (of_z w64 n.b))
+  last_fits v same is = passed_fits s n.b last_time.near last_time.from last_time.upto v same is
 
-  -- and over all its times, where no border falls into it
-  pub whole_fits : crosses s n ≡ false → Fits v (to_z w64 (of_z w64 n.a)) (to_z w64 (of_z w64 n.b))
-  whole_fits open_node =
-      let inside = valid.inside in
-      rw (same, to_z-of_z w64 n.a (a_fits (rules s) sound n valid), to_z-of_z w64 n.b (b_fits (rules s) sound n valid))
-      (span_fits s.view (subst IsView same is) n.a n.b valid.from (omega (arith, ints, inside)) valid.to open_node)
+-- ---- and over all times of a node into which no border falls
+pub whole_fits : (s : Search) (sound : IsSound (rules s)) (n : Node) (valid : IsValid (rules s) n) (v : View) → v ≡ s.view → IsView v → crosses s n ≡ false → Fits v (to_z w64 (of_z w64 n.a)) (to_z w64 (of_z w64 n.b))
+whole_fits s sound n valid v same is open_node =
+    let inside = valid.inside in
+    rw (same, to_z-of_z w64 n.a (a_fits (rules s) sound n valid), to_z-of_z w64 n.b (b_fits (rules s) sound n valid))
+    (span_fits s.view (subst IsView same is) n.a n.b valid.from (omega (arith, ints, inside)) valid.to open_node)
 
 -- the same of the search's own view, by what is read of it
 pub columns_fit : (s : Search) (sound : IsSound (rules s)) (n : Node) (valid : IsValid (rules s) n) (v : View) → v ≡ s.view → IsView v → crosses s n ≡ false

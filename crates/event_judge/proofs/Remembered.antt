@@ -47,19 +47,15 @@ width_is n inside = own_size (n.b -ℤ n.a) (omega (arith, ints, inside))
 time_is : (s : Search) (t : ℤ) (offset : ℕ) → pos offset ≡ t -ℤ s.view.ephemeris.start → time_of s offset ≡ t
 time_is s t offset e = let start = s.view.ephemeris.start in omega (arith, ints, e)
 
-pub named_time : (s named : Search) (t : ℤ) (offset : ℕ) → s ≡ named → pos offset ≡ t -ℤ s.view.ephemeris.start → time_of named offset ≡ t
-named_time s named t offset same e = ap (λ (s : Search). time_of s offset) (sym same) ∙ time_is s t offset e
+pub named_time : (s named : Search) (t u : ℤ) (offset : ℕ) → s ≡ named → pos offset ≡ t -ℤ s.view.ephemeris.start → t ≡ u → time_of named offset ≡ u
+named_time s named t u offset same e is = (ap (λ (s : Search). time_of s offset) (sym same) ∙ time_is s t offset e) ∙ is
 
--- the sign at a time, by one that is found at so many after the first
-pub sign_of_offset : (s named : Search) (t : ℤ) (offset : ℕ) → s ≡ named → pos offset ≡ t -ℤ s.view.ephemeris.start
-    → (found : Option Sign) (sign : Sign) → found ≡ Some sign → IfSome found (λ sign. sign_at named (time_of named offset) ≡ sign) → sign_at named t ≡ sign
-sign_of_offset s named t offset same e found sign is known =
-    ap (sign_at named) (sym (named_time s named t offset same e)) ∙ subst (λ (found : Option Sign). IfSome found (λ sign. sign_at named (time_of named offset) ≡ sign)) is known
+-- the sign at a time, by one that is found at it
+pub known_sign : (s : Search) (t u : ℤ) (found : Option Sign) (sign : Sign) → found ≡ Some sign → IfSome found (λ sign. sign_at s t ≡ sign) → t ≡ u → sign_at s u ≡ sign
+known_sign s t u found sign is known same = ap (sign_at s) (sym same) ∙ subst (λ (found : Option Sign). IfSome found (λ sign. sign_at s t ≡ sign)) is known
 
-pub lies : (P : Search → ℤ → ℤ → Type 0) (s named : Search) (a b : ℤ) (from upto : ℕ) → s ≡ named → pos from ≡ a -ℤ s.view.ephemeris.start → pos upto ≡ b -ℤ s.view.ephemeris.start
-    → P named (time_of named from) (time_of named upto) → P named a b
-lies P s named a b from upto same begins ends inside =
-    subst (λ (t : ℤ). P named t b) (named_time s named a from same begins) (subst (λ (t : ℤ). P named (time_of named from) t) (named_time s named b upto same ends) inside)
+pub lies : (P : ℤ → ℤ → Type 0) (a b a' b' : ℤ) → a' ≡ a → b' ≡ b → P a' b' → P a b
+lies P a b a' b' first last inside = subst (λ (t : ℤ). P t b) first (subst (λ (t : ℤ). P a' t) last inside)
 
 pub span_of : (P : Search → ℤ → ℤ → Type 0) (s named : Search) (n : Node) (from count : ℕ) → s ≡ named → n.a <ℤ n.b → pos from ≡ n.a -ℤ s.view.ephemeris.start → count ≡ width n → P s n.a n.b
     → P named (time_of named from) (time_of named (from + count))

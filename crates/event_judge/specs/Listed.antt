@@ -7,10 +7,10 @@ use Rattle.spec_steps.specs.ColumnTerms.{ColumnTerm, of_term}
 use Rattle.column_steps.specs.Listed.{IsMadeAt, Listed, Stands}
 use Rattle.event_judge.specs.declared.listed_event.ListedEvent.{ListedEvent}
 use Rattle.event_judge.specs.declared.slot_count.SlotCount.{SlotCount}
-use Rattle.event_judge.specs.declared.slot_count.SlotCount.TheVariants.{Of32, Of64, Of128, Of256}
+use Rattle.event_judge.specs.declared.slot_count.SlotCount.TheVariants.{Of28, Of64, Of128, Of256}
 
 abbrev pub slot_count : SlotCount → ℕ
-slot_count Of32 = 32
+slot_count Of28 = 28
 slot_count Of64 = 64
 slot_count Of128 = 128
 slot_count Of256 = 256

@@ -20,7 +20,7 @@ code_of Open = 3
 abbrev pub sign_word : ℤ → Sign → ℤ
 sign_word t sign = ((t +ℤ pos (2 ^ 51)) *ℤ pos 4) +ℤ pos (code_of sign)
 
--- where it is the word for a sign at a time, the function has that sign there
+-- if it is the word for a sign at a time, the function has that sign then
 abbrev pub KeepsSign : Search → ℕ → Type 0
 KeepsSign s word = (t : ℤ) (sign : Sign) → pos word ≡ sign_word t sign → sign_at s t ≡ sign
 
@@ -54,14 +54,39 @@ pub record LiesInSpan (word first last : ℕ) : Type 0 where
   pub from : offset_in word ≤ first
   pub upto : last ≤ offset_in word + width_in word
 
--- the times from a to b lie within a steady span
-pub record LiesInSteady (s : Search) (a b : ℤ) : Type 0 where
+-- the times from a to b lie within a span over which something holds
+pub record LiesIn (holds : ℤ → ℤ → Type 0) (a b : ℤ) : Type 0 where
   pub first : ℤ
   pub last : ℤ
-  pub steady : IsSteady s first last
+  pub holds_there : holds first last
   pub from : first ≤ℤ a
   pub upto : b ≤ℤ last
 
--- where it is the word for a span with some width, that lies within a steady one
-abbrev pub KeepsSpan : Search → ℕ → Type 0
-KeepsSpan s word = 0 < width_in word → LiesInSteady s (time_of s (offset_in word)) (time_of s (offset_in word + width_in word))
+-- they lie within a steady span
+abbrev pub LiesInSteady : Search → ℤ → ℤ → Type 0
+LiesInSteady s = LiesIn (IsSteady s)
+
+-- ---- spans with a sign that is known, as the last bit of a word
+abbrev pub bit_of : Sign → ℕ
+bit_of Yes = 0
+bit_of No = 1
+bit_of Open = 1
+
+abbrev pub sign_of_bit : ℕ → Sign
+sign_of_bit zero = Yes
+sign_of_bit (suc n) = No
+
+-- the word for a span and a sign, whose other bits are the word for the span; 0 is none
+abbrev pub signed_word : ℕ → ℕ → ℕ → Sign → ℕ
+signed_word offset units scale sign = span_word offset units scale * 2 + bit_of sign
+
+abbrev pub span_in : ℕ → ℕ
+span_in word = word / 2
+
+abbrev pub sign_in : ℕ → Sign
+sign_in word = sign_of_bit (word % 2)
+
+-- if it is the word for a span with some width, that lies within one over which something holds with the sign
+abbrev pub KeepsSpan : Search → (Sign → ℤ → ℤ → Type 0) → ℕ → Type 0
+KeepsSpan s holds word = 0 < width_in (span_in word)
+    → LiesIn (holds (sign_in word)) (time_of s (offset_in (span_in word))) (time_of s (offset_in (span_in word) + width_in (span_in word)))

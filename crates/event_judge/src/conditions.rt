@@ -14,9 +14,9 @@ use event_kinds::Guard;
 use ival_core::{Enclosure, Sign};
 use step_enclosures::{StepEnclosures, blank};
 
-/// Tells whether a sign certifies what has to be at least 0, or what has to be below 0.
+/// Tells whether a sign shows that a condition holds: that its formula is at least 0, or below 0 if not `at_least`.
 #[inline(always)]
-pub(crate) fn certifies(at_least: bool, sign: Sign) -> bool
+pub(crate) fn sign_certifies(at_least: bool, sign: Sign) -> bool
     ensures { result ≡ certifies at_least sign }
 {
     match sign {
@@ -26,9 +26,10 @@ pub(crate) fn certifies(at_least: bool, sign: Sign) -> bool
     }
 }
 
-// Returns the enclosure of a formula over some times, by a list of steps of its own.
+// Returns the enclosure of a formula over the times of a snapshot, by steps made for it alone. It stands apart
+// (`inline(never)`), so that its slots are cleared only when it is called.
 #[inline(never)]
-fn own_enclosure(formula: &Formula, states: &Snapshot) -> Enclosure
+fn enclosure_by_own_steps(formula: &Formula, states: &Snapshot) -> Enclosure
     ensures { result ≡ enclosure_in states.now formula.now }
 {
     let mut slots = [blank(); MAX_STEPS];
@@ -36,41 +37,42 @@ fn own_enclosure(formula: &Formula, states: &Snapshot) -> Enclosure
     StepEnclosures::new(states, &steps, &mut slots).enclosure(place)
 }
 
-// Returns the sign of a condition's formula over some times. It is made by the step that stands for the formula, or
-// by a list of its own where none does.
+// Returns the sign of a condition's formula, by the event's step with this number, or by steps of its own without one.
 #[inline(always)]
-fn sign(guard: &Guard, number: Option<usize>, made: &mut StepEnclosures) -> Sign
+fn condition_sign(guard: &Guard, number: Option<usize>, made: &mut StepEnclosures) -> Sign
     requires listed { IsSlotOf made.old.steps made.old.room guard.now.term number }
     ensures sign { result ≡ sign_in made.old.moment guard.now.term }
     ensures same { made.new ≡ made.old }
 {
     match number {
         Some(place) => made.enclosure(place).range.sign(),
-        None => own_enclosure(guard.formula(), made.states()).range.sign(),
+        None => enclosure_by_own_steps(guard.formula(), made.states())
+            .range
+            .sign(),
     }
 }
 
-// Tells whether a condition is known to hold at each of some times.
+// Tells whether a condition is known to hold at each of the times of the enclosures.
 #[inline(always)]
 fn is_certified(guard: &Guard, number: Option<usize>, made: &mut StepEnclosures) -> bool
     requires listed { IsSlotOf made.old.steps made.old.room guard.now.term number }
     ensures certified { result ≡ is_certified (finding_in made.old.moment guard.now) }
     ensures same { made.new ≡ made.old }
 {
-    certifies(guard.at_least(), sign(guard, number, made))
+    sign_certifies(guard.at_least(), condition_sign(guard, number, made))
 }
 
-// Tells whether a condition is known to be false at each of some times.
+// Tells whether a condition is known to be false at each of the times of the enclosures.
 #[inline(always)]
 fn is_refuted(guard: &Guard, number: Option<usize>, made: &mut StepEnclosures) -> bool
     requires listed { IsSlotOf made.old.steps made.old.room guard.now.term number }
     ensures refuted { result ≡ is_refuted (finding_in made.old.moment guard.now) }
     ensures same { made.new ≡ made.old }
 {
-    certifies(!guard.at_least(), sign(guard, number, made))
+    sign_certifies(!guard.at_least(), condition_sign(guard, number, made))
 }
 
-/// Tells whether each condition is known to hold at each of some times.
+/// Tells whether each condition is known to hold at each of the times of the enclosures. Without conditions it is true.
 pub(crate) fn are_certified(
     guards: &[Guard],
     listed: &ListedEvent,
@@ -82,14 +84,14 @@ pub(crate) fn are_certified(
     ensures same { made.new ≡ made.old }
 {
     for place in 0..guards.len() {
-        if !is_certified(&guards[place], listed.guard(place), made) {
+        if !is_certified(&guards[place], listed.guard_step(place), made) {
             return false;
         }
     }
     true
 }
 
-/// Tells whether some condition is known to be false at each of some times.
+/// Tells whether some condition is known to be false at each time of the enclosures, so that no event is there.
 pub(crate) fn is_one_refuted(
     guards: &[Guard],
     listed: &ListedEvent,
@@ -101,7 +103,7 @@ pub(crate) fn is_one_refuted(
     ensures same { made.new ≡ made.old }
 {
     for place in 0..guards.len() {
-        if is_refuted(&guards[place], listed.guard(place), made) {
+        if is_refuted(&guards[place], listed.guard_step(place), made) {
             return true;
         }
     }

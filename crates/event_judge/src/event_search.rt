@@ -6,7 +6,6 @@ ghost use Rattle.column_steps.specs.Listed.{IsMadeAt};
 ghost use Rattle.event_judge.specs.Listed.{AreStepsOf};
 
 use crate::listed_event::ListedEvent;
-use crate::wanted::wanted_leaves;
 use body_states::BodyStates;
 use column_steps::StepPlace;
 use eph_model::Ephemeris;
@@ -15,8 +14,7 @@ use event_kinds::Event;
 use gf_hooks::CutRule;
 use std::marker::Model;
 
-/// A search for an event of two bodies over the times of an ephemeris, in its units of TDB since J2000: seconds, or
-/// ticks.
+/// A search for an event of two bodies over the times of an ephemeris, in ticks of TDB since J2000.
 #[derive(Drop)]
 pub struct EventSearch<'e> {
     states: BodyStates<'e>,
@@ -24,9 +22,6 @@ pub struct EventSearch<'e> {
     event: Event,
     /// The coordinates that the event names.
     wanted: Leaves,
-    /// The coordinates that the event's function names.
-    of_function: Leaves,
-    /// The steps of the event's function and of its conditions.
     listed: ListedEvent,
     width: u64,
     depth: u32,
@@ -59,8 +54,7 @@ impl<'e> Model for EventSearch<'e> {
 }
 
 impl<'e> EventSearch<'e> {
-    /// Returns the search for an event of the two targets of the states, which read this ephemeris. Nodes are split
-    /// down to the width and to the depth, and are cut by the rule.
+    /// Makes the search for an event of the states' targets. Nodes are split down to a width, in ticks, and a depth.
     pub(crate) fn new(
         states: BodyStates<'e>,
         ephemeris: &'e Ephemeris,
@@ -79,15 +73,13 @@ impl<'e> EventSearch<'e> {
           cut = rule;
         } }
     {
-        let wanted = wanted_leaves(&event);
-        let of_function = event.function().leaves();
+        let wanted = coordinates_named_by(&event);
         let listed = ListedEvent::new(&event, states.sight());
         EventSearch {
             states,
             ephemeris,
             event,
             wanted,
-            of_function,
             listed,
             width: width.unsigned_abs(),
             depth,
@@ -119,19 +111,13 @@ impl<'e> EventSearch<'e> {
         &self.event
     }
 
-    /// Returns the coordinates that the event's function or one of its conditions names. No result depends on them.
+    /// Returns the coordinates that the event names. Only they are read of a snapshot; no result depends on them.
     #[inline(always)]
-    pub(crate) fn wanted(&self) -> &Leaves {
+    pub(crate) fn named_coordinates(&self) -> &Leaves {
         &self.wanted
     }
 
-    /// Returns the coordinates that the event's function names. No result depends on them.
-    #[inline(always)]
-    pub(crate) fn of_function(&self) -> &Leaves {
-        &self.of_function
-    }
-
-    /// Returns the step that stands for the event's function, in a list of steps over what the states see.
+    /// Returns the step that stands for the event's function, in the event's list of steps.
     pub fn function_step(&self) -> StepPlace<'_>
         ensures seen { result.steps.now.sight ≡ sight_of self.now.view }
         ensures made { IsMadeAt result.steps.now result.place
@@ -145,13 +131,13 @@ impl<'e> EventSearch<'e> {
 
     /// Returns the steps of the event's function and of its conditions.
     #[inline(always)]
-    pub(crate) fn listed(&self) -> &ListedEvent
+    pub(crate) fn event_steps(&self) -> &ListedEvent
         ensures { AreStepsOf (sight_of self.now.view) self.now.event result.now }
     {
         &self.listed
     }
 
-    /// Returns the width down to which nodes are split, in units of the ephemeris's times. It is at least 1.
+    /// Returns the width down to which nodes are split, in ticks. It is at least 1.
     #[inline(always)]
     pub fn width(&self) -> u64
         ensures width { result ≡ self.now.width }
@@ -160,8 +146,7 @@ impl<'e> EventSearch<'e> {
         self.width
     }
 
-    /// States what holds for a search by its parts: the states read a checked ephemeris, the event has formulas,
-    /// and the width is at least 1. Nothing is done.
+    /// States that the search has a checked ephemeris, formulas and a width. The calls are made for what they ensure.
     #[inline(always)]
     pub fn is_search(&self)
         ensures { IsSearch self.now }
@@ -185,4 +170,13 @@ impl<'e> EventSearch<'e> {
     {
         self.depth
     }
+}
+
+// Returns the coordinates that the function of an event or one of its conditions names.
+fn coordinates_named_by(event: &Event) -> Leaves {
+    let mut leaves = event.function().leaves();
+    for guard in event.guards() {
+        leaves = leaves.union(guard.formula().leaves());
+    }
+    leaves
 }

@@ -6,13 +6,10 @@ ghost use Rattle.spec_searches.specs.Found.{rules};
 use crate::event_search::EventSearch;
 use gf_hooks::Cutter;
 
-/// Judges the nodes of a search for an event of two bodies, by enclosures of the event's function and conditions, and
-/// cuts those that are split.
+/// A judge of a search's nodes by enclosures of the event's function and conditions, and the cutter of those it splits.
 #[derive(Drop)]
 pub struct EventJudge<'e> {
-    /// The search whose nodes are judged.
     pub search: EventSearch<'e>,
-    /// The cutter of these nodes, by the rule of the search.
     pub cutter: Cutter,
     ghost same_rule: { cutter.rule ≡ search.cut },
     ghost sound: { IsSound (rules search) },

@@ -12,6 +12,7 @@ ghost use Rattle.spec_searches.specs.Search.{IsSearch, events, may_be_cut, parts
 
 use crate::event_search::EventSearch;
 use crate::judge::EventJudge;
+use crate::search_memory::NoMemory;
 use crate::valid_node::ValidNode;
 use body_states::BodyStates;
 use eph_model::Ephemeris;
@@ -19,8 +20,8 @@ use event_kinds::Event;
 use gf_hooks::{Cutter, Judge, Node, Verdict};
 
 impl<'e> EventJudge<'e> {
-    /// Returns the judge of the search for an event of the two targets of the states, which read this ephemeris.
-    /// Nodes are split down to the width and to the depth, and are cut by the cutter.
+    /// Makes the judge of the search for an event of the states' two targets. Nodes are split down to a width, in
+    /// ticks, and a depth. The columns are read for what the call ensures.
     pub fn new(
         states: BodyStates<'e>,
         eph: &'e Ephemeris,
@@ -48,17 +49,16 @@ impl<'e> EventJudge<'e> {
 }
 
 impl<'e> EventJudge<'e> {
-    /// Tells whether a valid node may be cut, whatever its verdict. It must be wider than one unit of time, and a
-    /// border falls into it or it is not as deep as the depth of the search.
+    /// Tells whether a valid node may be cut: it is wider than a tick, and has a border in it or may be split deeper.
     pub fn may_be_cut(&self, node: Node) -> bool
         requires { IsValid (rules self.now.search) node }
         ensures { result ≡ may_be_cut self.now.search node }
     {
-        ValidNode {
+        let valid = ValidNode {
             search: &self.search,
             node,
-        }
-        .may_be_cut()
+        };
+        valid.is_wide() && (valid.nearest_border().is_some() || node.depth < self.search.depth())
     }
 
     /// Returns the parts of a valid node that may be cut, by the cutter.
@@ -71,11 +71,11 @@ impl<'e> EventJudge<'e> {
             search: &self.search,
             node,
         }
-        .parts(&self.cutter)
+        .parts_by_cutter(&self.cutter)
     }
 
-    /// States that what holds for a search holds for this one. Its rules are sound, and a node that is split may be
-    /// cut. The parts of a valid node that may be cut are valid and cut it. Nothing is done.
+    /// States that the search's rules are sound, that a node that is split may be cut, and that its parts, if it is
+    /// valid, are valid and cut it.
     pub fn nodes_may_be_cut(&self)
         ensures search { IsSearch self.now.search }
         ensures sound { IsSound (rules self.now.search) }
@@ -91,11 +91,11 @@ impl<'e> EventJudge<'e> {
 impl<'e> Judge for EventJudge<'e> {
     ghost rules = { λ judge. rules judge.search };
 
-    /// Returns the verdict of a valid node, by enclosures alone. It holds for the events.
+    /// Returns the verdict of a valid node, by enclosures alone. A clear node has no event, and a node with one turn
+    /// has exactly one, of that turn.
     fn judge(&self, node: Node) -> Verdict
         requires { IsValid (rules self.now.search) node }
         ensures verdict { result ≡ verdict_of self.now.search node }
-        // A clear node holds no event, and one with one turn exactly one event, a turn in its direction.
         ensures clear { result ≡ Clear → HasNoEvent (events self.now.search) node.a node.b }
         ensures one { (turn : Turn) → result ≡ One turn
             → HoldsOne (events self.now.search) turn (window_of node (Certain turn)) }
@@ -105,16 +105,16 @@ impl<'e> Judge for EventJudge<'e> {
             search: &self.search,
             node,
         }
-        .verdict()
+        .verdict(&NoMemory {})
     }
 
-    // Returns the parts of a node: cut at the border in it, or by the cutter where there is none.
+    // Returns the parts of a node that is split: cut at the border in it, or by the cutter if there is none.
     fn cut(&self, node: Node) -> (Node, Node) {
         ValidNode {
             search: &self.search,
             node,
         }
-        .parts(&self.cutter)
+        .parts_by_cutter(&self.cutter)
     }
 
     ghost sound = { λ judge. judge.sound };

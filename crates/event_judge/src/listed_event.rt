@@ -7,20 +7,18 @@ use column_steps::StepList;
 use event_kinds::{Event, Guard};
 use spec_steps::Sight;
 
-/// The steps of the function of an event and then of its first two conditions, for what is seen, with the numbers
-/// of the steps that stand for them. A condition for which the list has no room has no number.
+/// The steps of an event's function and first two conditions, and their numbers: none for a condition without room.
 #[derive(Drop)]
 pub(crate) struct ListedEvent {
     pub steps: StepList,
     pub function: usize,
     pub first: Option<usize>,
     pub second: Option<usize>,
-    /// The number of slots for values of the steps.
     pub slots: SlotCount,
 }
 
 impl ListedEvent {
-    /// Returns the steps of an event, for what is seen.
+    /// Makes the list of the steps of an event's function and then of its first two conditions, for what is seen.
     pub fn new(event: &Event, sight: Sight) -> ListedEvent
         ensures { AreStepsOf sight event.now result }
     {
@@ -33,14 +31,16 @@ impl ListedEvent {
             function,
             first,
             second,
-            slots: SlotCount::for_place(last_place(function, first, second)),
+            slots: SlotCount::fewest_for_step(greater_step_number(
+                greater_step_number(function, first),
+                second,
+            )),
         }
     }
 
-    /// Returns the number of the step that stands for the condition with a place, which counts from 0. None is
-    /// returned where the list has no such step.
+    /// Returns the number of the step for the condition at a place, counted from 0, or none if the list has none.
     #[inline(always)]
-    pub fn guard(&self, place: usize) -> Option<usize>
+    pub fn guard_step(&self, place: usize) -> Option<usize>
         ensures { result ≡ place_of self.now place }
     {
         match place {
@@ -51,8 +51,7 @@ impl ListedEvent {
     }
 }
 
-// Adds the condition with a place to a list of steps, and returns the number of the step that stands for it. None
-// is returned where there is no such condition, or no room for it.
+// Adds the condition at a place, counted from 0, and returns its step's number, or none without a condition or room.
 fn add_guard(steps: &mut StepList, guards: &[Guard], place: usize) -> Option<usize>
     ensures kept { KeepsSteps steps.old steps.new }
     ensures made { IsGuardAt steps.new guards.now place result }
@@ -65,21 +64,8 @@ fn add_guard(steps: &mut StepList, guards: &[Guard], place: usize) -> Option<usi
     }
 }
 
-// Returns the greatest of the numbers of three steps, of which the last two may be missing.
-fn last_place(function: usize, first: Option<usize>, second: Option<usize>) -> usize
-    requires function { function < 256 }
-    requires first { IfSome first (λ k. k < 256) }
-    requires second { IfSome second (λ k. k < 256) }
-    ensures few { result < 256 }
-    ensures function { function ≤ result }
-    ensures first { IfSome first (λ k. k ≤ result) }
-    ensures second { IfSome second (λ k. k ≤ result) }
-{
-    later(later(function, first), second)
-}
-
-// Returns the greater of the number of a step and the number of another, if there is one.
-fn later(place: usize, other: Option<usize>) -> usize
+// Returns the greater of a step's number and another's, if there is one: the slots have to reach to the greatest.
+fn greater_step_number(place: usize, other: Option<usize>) -> usize
     requires place { place < 256 }
     requires other { IfSome other (λ k. k < 256) }
     ensures few { result < 256 }

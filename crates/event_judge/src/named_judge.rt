@@ -13,9 +13,7 @@ use std::marker::PhantomData;
 /// A judge of the nodes of the search that a call has named, with that search.
 #[derive(Drop)]
 pub struct NamedJudge<'j, 'e, N: Naming, J: Judge> {
-    /// The judge.
     pub judge: &'j J,
-    /// The search whose nodes it judges.
     pub search: &'j EventSearch<'e>,
     pub(crate) of: PhantomData<N>,
     ghost named: { search.now ≡ N.search },

@@ -9,8 +9,8 @@ use crate::valid_node::ValidNode;
 use gf_hooks::{Cutter, Node, rule_cut};
 use spec_searches::laws::searches_are_sound;
 
-// Returns the two parts of a node that is cut at a time, both at a depth.
-fn parts_at(time: i64, depth: u32, node: Node) -> (Node, Node)
+// Returns the two parts of a node that is cut at a time, both with the given depth.
+fn parts_cut_at(time: i64, depth: u32, node: Node) -> (Node, Node)
     ensures { result ≡ parts_at time depth node }
 {
     (
@@ -27,9 +27,8 @@ fn parts_at(time: i64, depth: u32, node: Node) -> (Node, Node)
     )
 }
 
-// Returns the time at which a node with a border in it is cut: the time before the border, or the border itself
-// where that time is the node's first.
-fn border_cut(node: Node, border: i64) -> i64
+// Returns the tick before a border, at which its node is cut, or the border itself if that tick is the node's first.
+fn cut_time_at_border(node: Node, border: i64) -> i64
     requires { neg_ℤ (pos (2 ^ 60)) ≤ℤ border }
     ensures { result ≡ border_cut node border }
 {
@@ -41,9 +40,9 @@ fn border_cut(node: Node, border: i64) -> i64
 }
 
 impl<'s, 'e> ValidNode<'s, 'e> {
-    /// Returns the parts of a node that may be cut: at the border in it, at its own depth; or by the cutter, one
-    /// deeper.
-    pub(crate) fn parts(self, cutter: &Cutter) -> (Node, Node)
+    /// Returns the parts of a node that may be cut: at the border in it, at the node's depth; or, if there is none,
+    /// where the cutter says, one deeper. The values that are not used are read for what the calls ensure.
+    pub(crate) fn parts_by_cutter(self, cutter: &Cutter) -> (Node, Node)
         requires rule { cutter.now.rule ≡ self.search.now.cut }
         requires may { may_be_cut self.search.now self.node ≡ true }
         ensures { result ≡ parts self.entry.search.now self.entry.node }
@@ -51,24 +50,24 @@ impl<'s, 'e> ValidNode<'s, 'e> {
         let node = self.node;
         let _columns = self.search.states().columns();
         let _deepest = self.search.depth();
-        match self.border() {
-            Some(border) => parts_at(border_cut(node, border), node.depth, node),
-            None => parts_at(cutter.cut(node.a, node.b), node.depth + 1, node),
+        match self.nearest_border() {
+            Some(border) => parts_cut_at(cut_time_at_border(node, border), node.depth, node),
+            None => parts_cut_at(cutter.cut(node.a, node.b), node.depth + 1, node),
         }
     }
 
-    // Returns the parts of a node that may be cut: at the border in it, at its own depth; or by the rule of the
-    // search, one deeper.
-    fn own_parts(self) -> (Node, Node)
+    // Returns the parts of a node that may be cut: at the border in it, at the node's depth; or, if there is none, by
+    // the rule of the search, one deeper. The values that are not used are read for what the calls ensure.
+    fn parts_by_rule(self) -> (Node, Node)
         requires { may_be_cut self.search.now self.node ≡ true }
         ensures { result ≡ parts self.entry.search.now self.entry.node }
     {
         let node = self.node;
         let _columns = self.search.states().columns();
         let _deepest = self.search.depth();
-        match self.border() {
-            Some(border) => parts_at(border_cut(node, border), node.depth, node),
-            None => parts_at(
+        match self.nearest_border() {
+            Some(border) => parts_cut_at(cut_time_at_border(node, border), node.depth, node),
+            None => parts_cut_at(
                 rule_cut(self.search.rule(), node.a, node.b),
                 node.depth + 1,
                 node,
@@ -86,6 +85,6 @@ impl<'e> EventSearch<'e> {
     {
         self.is_search();
         searches_are_sound();
-        ValidNode { search: self, node }.own_parts()
+        ValidNode { search: self, node }.parts_by_rule()
     }
 }

@@ -13,7 +13,7 @@ use std::alloc::{AllocError, Global};
 use std::marker::PhantomData;
 
 impl<'j, 'e, N: Naming, J: Judge> NamedJudge<'j, 'e, N, J> {
-    // Returns the judge with its search, which a call has named and whose rules the judge has.
+    // Keeps a judge together with its search, which a call has named and whose rules the judge has.
     fn new(judge: &'j J, search: &'j EventSearch<'e>) -> NamedJudge<'j, 'e, N, J>
         requires named { search.now ≡ N.search }
         requires rules { J.rules judge.now ≡ rules search.now }
@@ -29,8 +29,7 @@ impl<'j, 'e, N: Naming, J: Judge> NamedJudge<'j, 'e, N, J> {
 }
 
 impl<'j, 'e, N: Naming, J: Judge> RememberingJudge<'j, 'e, N, J> {
-    /// Returns a judge of the nodes of a search, which a call has named. It says what another judge says of them,
-    /// and remembers nothing yet. The only error is out of memory.
+    /// Makes a judge that says what `judge` does, and remembers nothing yet. The only error is out of memory.
     pub fn new(
         alloc: Global,
         judge: &'j J,

@@ -1,88 +1,48 @@
-// The verdicts of nodes by what is remembered: the signs at their ends, and the steady or quiet spans in which they
-// lie.
-ghost use Rattle.std.specs.Prelude.{◌≡◌, ◌≤◌, ◌-ℤ◌, IfSome, IsTrue, [], false, pos, true};
+// The verdicts of nodes by what is remembered: signs at their ends, and steady or quiet spans in which they lie.
+ghost use Rattle.std.specs.Prelude.{◌≡◌, IfSome, IsTrue, [], false, true};
 ghost use Rattle.spec_events.specs.Verdict.{differ, is_known};
 ghost use Rattle.spec_searches.specs.Search.{crosses, verdict_of};
 ghost use Rattle.spec_bounds.specs.Steady.{IsSteady, sign_at};
-ghost use Rattle.spec_intervals.specs.Enclosure.{middle};
-ghost use Rattle.spec_steps.specs.ColumnTerms.{sight_of};
 ghost use Rattle.event_judge.specs.Found.{whole_enclosure};
-ghost use Rattle.event_judge.specs.Listed.{AreStepsOf, slot_count};
 ghost use Rattle.event_judge.specs.Memory.{LiesInSteady};
 ghost use Rattle.event_judge.specs.Plain.{IsPlain};
 
-use crate::listed_event::ListedEvent;
 use crate::memory::Memory;
 use crate::naming::Naming;
-use crate::slot_count::SlotCount;
+use crate::search_memory::SearchMemory;
+use crate::search_time::SearchTime;
 use crate::valid_node::ValidNode;
 use gf_hooks::{Verdict, differ};
 use ival_core::{Enclosure, Sign};
 use spec_bounds::laws::{ends_that_differ, middles_are_told, steady_spans_tell_verdicts};
-use step_enclosures::blank;
 
-// Tells whether a sign is known: `Yes` or `No`.
+// Tells whether a sign is known: `Yes` or `No`, but not `Open`.
 #[inline(always)]
 fn is_known(sign: Sign) -> bool
     ensures { result ≡ is_known sign }
 {
-    match sign {
-        Sign::Yes | Sign::No => true,
-        Sign::Open => false,
-    }
+    matches!(sign, Sign::Yes | Sign::No)
 }
 
 impl<'s, 'e> ValidNode<'s, 'e> {
-    // Returns the sign of the function at the node's first time.
-    fn first_sign(self) -> Sign
-        ensures { result ≡ sign_at self.entry.search.now self.entry.node.a }
-    {
-        self.sign(&self.first())
-    }
-
-    // Returns the sign of the function at the node's last time.
-    fn last_sign(self) -> Sign
-        ensures { result ≡ sign_at self.entry.search.now self.entry.node.b }
-    {
-        self.sign(&self.last_of_function())
-    }
-
-    // Returns the time halfway from the first to the last, rounded down.
-    fn middle(self) -> i64
-        ensures { result ≡ middle self.entry.node.a self.entry.node.b }
-    {
-        (self.node.a + self.node.b).div_euclid(2)
-    }
-
-    /// Returns the node's first time, counted from the first time of the ephemeris.
-    pub(crate) fn first_offset(self) -> u64
-        ensures { pos result ≡ self.entry.node.a -ℤ self.entry.search.now.view.ephemeris.start }
-    {
-        (self.node.a - self.search.ephemeris().start()).unsigned_abs()
-    }
-
-    /// Returns the node's last time, counted from the first time of the ephemeris.
-    pub(crate) fn last_offset(self) -> u64
-        ensures { pos result ≡ self.entry.node.b -ℤ self.entry.search.now.view.ephemeris.start }
-    {
-        (self.node.b - self.search.ephemeris().start()).unsigned_abs()
-    }
-
-    // Tells whether signs that differ at the node's ends leave nothing to decide but the limits.
-    fn is_plain(self) -> bool
+    // Tells whether only the limits decide if the end signs differ: no conditions, a wide node, and no border in it.
+    fn needs_only_limits(self) -> bool
         ensures { IsTrue result → IsPlain self.entry.search.now self.entry.node }
     {
-        self.has_no_guard() && self.is_wide() && !self.is_narrow() && self.border().is_none()
+        self.has_no_guard()
+            && self.is_wide()
+            && !self.is_narrow()
+            && self.nearest_border().is_none()
     }
 
-    /// Tells whether the event has no conditions.
-    pub(crate) fn has_no_guard(self) -> bool
+    // Tells whether the event has no conditions.
+    fn has_no_guard(self) -> bool
         ensures { IsTrue result → self.entry.search.now.event.conditions ≡ [] }
     {
         self.search.event().guards().is_empty()
     }
 
-    // Tells whether the search is steady over the node, by bounds.
+    // Tells whether the search is steady over the node, by bounds. The columns are read for what the call ensures.
     fn is_steady(self) -> bool
         requires { crosses self.search.now self.node ≡ false }
         ensures { IsTrue result
@@ -93,47 +53,49 @@ impl<'s, 'e> ValidNode<'s, 'e> {
     }
 }
 
+impl<N: Naming> SearchMemory for Memory<N> {
+    ghost use Rattle.std.specs.Prelude.{◌≡◌};
+
+    ghost knows = { λ s. s ≡ N.search };
+
+    // Returns the sign of the function at the time: as it is remembered, or made anew and then remembered.
+    fn sign_at(&self, time: SearchTime) -> Sign {
+        match self.remembered_sign(time) {
+            Some(sign) => sign,
+            None => {
+                let sign = time.sign();
+                self.keep_sign(time, sign);
+                sign
+            }
+        }
+    }
+
+    // Keeps whether the node had a turn between its ends. Of a node that is to be split the sign in its middle is kept
+    // too, and the node itself if it is found to be a steady span.
+    fn keep_verdict(&self, node: ValidNode, over: &Enclosure, verdict: Verdict) {
+        if verdict != Verdict::Split {
+            self.keep_turn(false);
+            return;
+        }
+        self.keep_middle_sign(node, over);
+        let turns = self.has_wanted_turn(node);
+        self.keep_turn(turns);
+        if turns {
+            self.keep_if_steady(node);
+        }
+    }
+}
+
 impl<N: Naming> Memory<N> {
-    /// Returns the sign at the first time of a node, and remembers it.
-    pub(crate) fn first_sign(&self, node: ValidNode) -> Sign
-        requires named { node.search.now ≡ N.search }
-        ensures { result ≡ sign_at N.search node.entry.node.a }
-    {
-        match self.sign(node.node.a) {
-            Some(sign) => sign,
-            None => {
-                let sign = node.first_sign();
-                self.keep_sign(node.node.a, sign);
-                sign
-            }
-        }
-    }
-
-    /// Returns the sign at the last time of a node, and remembers it.
-    pub(crate) fn last_sign(&self, node: ValidNode) -> Sign
-        requires named { node.search.now ≡ N.search }
-        ensures { result ≡ sign_at N.search node.entry.node.b }
-    {
-        match self.sign(node.node.b) {
-            Some(sign) => sign,
-            None => {
-                let sign = node.last_sign();
-                self.keep_sign(node.node.b, sign);
-                sign
-            }
-        }
-    }
-
-    // Tells whether a node is known to lie in a steady span.
-    fn knows_steady(&self, node: ValidNode) -> bool
+    // Tells whether a node is remembered to lie in a steady span.
+    fn knows_node_is_steady(&self, node: ValidNode) -> bool
         requires named { node.search.now ≡ N.search }
         ensures { IsTrue result → LiesInSteady N.search node.entry.node.a node.entry.node.b }
     {
-        self.lies_in_steady(node.first_offset(), node.last_offset())
+        self.lie_in_steady_span(node.first().offset(), node.last().offset())
     }
 
-    // Returns the verdict of a node in a steady span, where the sign at each of its ends is `Yes` or `No`; else
-    // none.
+    // Returns the verdict of a node in a steady span if the sign at each of its ends is `Yes` or `No`, or none.
     fn verdict_by_ends(&self, node: ValidNode) -> Option<Verdict>
         requires named { node.search.now ≡ N.search }
         requires steady { LiesInSteady N.search node.node.a node.node.b }
@@ -141,8 +103,7 @@ impl<N: Naming> Memory<N> {
     {
         steady_spans_tell_verdicts();
         node.search.is_search();
-        let first = self.first_sign(node);
-        let last = self.last_sign(node);
+        let (first, last) = node.end_signs(self);
         if is_known(first) && is_known(last) {
             Some(node.steady_verdict(first, last))
         } else {
@@ -150,20 +111,22 @@ impl<N: Naming> Memory<N> {
         }
     }
 
-    // Tells whether the signs that are remembered at the two ends of a node differ in the direction that is wanted.
+    // Tells whether the signs at a node's two ends are both remembered, and differ in the wanted direction.
     fn knows_turn(&self, node: ValidNode) -> bool
         requires named { node.search.now ≡ N.search }
         ensures { IsTrue result → differ N.search.event.dir
             (sign_at N.search node.entry.node.a) (sign_at N.search node.entry.node.b) ≡ true }
     {
-        match (self.sign(node.node.a), self.sign(node.node.b)) {
+        match (
+            self.remembered_sign(node.first()),
+            self.remembered_sign(node.last()),
+        ) {
             (Some(first), Some(last)) => differ(node.search.event().dir(), first, last),
             _ => false,
         }
     }
 
-    // Returns the verdict of a node whose ends have signs that differ, which no condition can refute. The node is
-    // kept where it is found to be a steady span.
+    // Returns the verdict of a node whose end signs differ as wanted, by the limits. The node is kept if it is steady.
     fn verdict_by_turn(&self, node: ValidNode) -> Verdict
         requires named { node.search.now ≡ N.search }
         requires plain { IsPlain node.search.now node.node }
@@ -173,28 +136,28 @@ impl<N: Naming> Memory<N> {
     {
         ends_that_differ();
         node.search.is_search();
-        self.keep_node(node);
+        self.keep_if_steady(node);
         node.limit_verdict()
     }
 
-    // Returns the verdict of a node, where what is remembered shows it; else none.
-    fn verdict(&self, node: ValidNode) -> Option<Verdict>
+    // Returns the verdict of a node if what is remembered shows it, or none.
+    fn remembered_verdict(&self, node: ValidNode) -> Option<Verdict>
         requires named { node.search.now ≡ N.search }
         ensures { IfSome result (λ verdict. verdict ≡ verdict_of N.search node.entry.node) }
     {
-        if self.knows_steady(node) {
+        if self.knows_node_is_steady(node) {
             self.verdict_by_ends(node)
-        } else if self.knows_quiet(node) {
+        } else if self.knows_node_is_quiet(node) {
             Some(Verdict::Clear)
-        } else if self.knows_turn(node) && node.is_plain() {
+        } else if self.knows_turn(node) && node.needs_only_limits() {
             Some(self.verdict_by_turn(node))
         } else {
             None
         }
     }
 
-    // Keeps a node as a span, where it is worth trying and the search is found to be steady over it.
-    fn keep_node(&self, node: ValidNode)
+    // Keeps a node as a steady span, if it is worth testing and bounds show that the search is steady over it.
+    fn keep_if_steady(&self, node: ValidNode)
         requires named { node.search.now ≡ N.search }
         requires open { crosses node.search.now node.node ≡ false }
     {
@@ -203,37 +166,24 @@ impl<N: Naming> Memory<N> {
             let is_steady = node.is_steady();
             self.keep_trial(width, is_steady);
             if is_steady {
-                let from = node.first_offset();
+                let from = node.first().offset();
                 self.keep_span(from, node.width());
             }
         }
     }
 
-    // Tells whether the signs at the two ends of a node differ in the direction that is wanted.
-    fn turns(&self, node: ValidNode) -> bool
+    // Tells whether the signs at a node's two ends, recalled or made anew, differ in the wanted direction.
+    fn has_wanted_turn(&self, node: ValidNode) -> bool
         requires named { node.search.now ≡ N.search }
         ensures { IsTrue result → differ N.search.event.dir
             (sign_at N.search node.entry.node.a) (sign_at N.search node.entry.node.b) ≡ true }
     {
-        let (first, last) = (self.first_sign(node), self.last_sign(node));
+        let (first, last) = (self.sign_at(node.first()), self.sign_at(node.last()));
         differ(node.search.event().dir(), first, last)
     }
 
-    // Keeps whether a node that is to be split has a turn between its ends. If so, the node is kept where it is
-    // found to be a steady span.
-    fn learn(&self, node: ValidNode)
-        requires named { node.search.now ≡ N.search }
-        requires uncrossed { crosses node.search.now node.node ≡ false }
-    {
-        let turns = self.turns(node);
-        self.keep_turn(turns);
-        if turns {
-            self.keep_node(node);
-        }
-    }
-
-    // Keeps the sign of the function in the middle of a node, which the enclosure over the whole node has.
-    fn keep_middle(&self, node: ValidNode, over: &Enclosure)
+    // Keeps the sign in the middle of a node, by the enclosure over it all: the middle will be an end of its parts.
+    fn keep_middle_sign(&self, node: ValidNode, over: &Enclosure)
         requires named { node.search.now ≡ N.search }
         requires uncrossed { crosses node.search.now node.node ≡ false }
         requires over { over.now ≡ whole_enclosure node.search.now node.node }
@@ -243,84 +193,19 @@ impl<N: Naming> Memory<N> {
         self.keep_sign(node.middle(), over.mid.sign());
     }
 
-    // Returns the verdict of a node into which no border falls, by the enclosure over the whole node. Of a node
-    // that is to be split more is remembered.
-    fn judge_over(&self, node: ValidNode) -> Verdict
+    // Returns the verdict of a node with no border in it, if nothing that is remembered shows it. The signs at its ends
+    // are asked first if the last such node had a turn between them.
+    fn uncrossed_verdict(&self, node: ValidNode) -> Verdict
         requires named { node.search.now ≡ N.search }
         requires uncrossed { crosses node.search.now node.node ≡ false }
         ensures { result ≡ verdict_of N.search node.entry.node }
     {
-        let listed = node.search.listed();
-        match listed.slots {
-            SlotCount::Of32 => self.judge_over_by::<32>(node, listed),
-            SlotCount::Of64 => self.judge_over_by::<64>(node, listed),
-            SlotCount::Of128 => self.judge_over_by::<128>(node, listed),
-            SlotCount::Of256 => self.judge_over_by::<256>(node, listed),
-        }
-    }
-
-    // Returns the verdict of a node by the enclosure over the whole node, with `M` slots for steps. Of a node that
-    // is to be split the sign in its middle is kept, and whether it has a turn.
-    #[inline(never)]
-    fn judge_over_by<const M: usize>(&self, node: ValidNode, listed: &ListedEvent) -> Verdict
-        requires named { node.search.now ≡ N.search }
-        requires listed { AreStepsOf (sight_of node.search.now.view) node.search.now.event listed.now }
-        requires slots { slot_count listed.now.slots ≡ M }
-        requires few { M ≤ 256 }
-        requires uncrossed { crosses node.search.now node.node ≡ false }
-        ensures { result ≡ verdict_of N.search node.entry.node }
-    {
-        let states = node.whole();
-        let mut slots = [blank(); M];
-        let mut whole = node.steps(&states, listed, &mut slots);
-        let over = node.enclosure(listed, &mut whole);
-        let verdict = self.verdict_over(node, listed, &mut whole, &over);
-        if verdict == Verdict::Split {
-            self.keep_middle(node, &over);
-            self.learn(node);
-        } else {
-            self.keep_turn(false);
-        }
-        verdict
-    }
-
-    // Returns the verdict of a node into which no border falls, where nothing that is remembered shows it. Where
-    // the last such node had a turn between its ends, the signs at the ends are asked first.
-    fn judge_open(&self, node: ValidNode) -> Verdict
-        requires named { node.search.now ≡ N.search }
-        requires uncrossed { crosses node.search.now node.node ≡ false }
-        ensures { result ≡ verdict_of N.search node.entry.node }
-    {
-        if self.finds_quiet(node) {
+        if self.finds_node_is_quiet(node) {
             Verdict::Clear
-        } else if self.expects_turn() && node.is_plain() && self.turns(node) {
+        } else if self.expects_turn() && node.needs_only_limits() && self.has_wanted_turn(node) {
             self.verdict_by_turn(node)
         } else {
-            self.judge_over(node)
-        }
-    }
-
-    // Returns the verdict of a node into which a border falls.
-    fn judge_border(&self, node: ValidNode) -> Verdict
-        requires named { node.search.now ≡ N.search }
-        requires crossed { crosses node.search.now node.node ≡ true }
-        ensures { result ≡ verdict_of N.search node.entry.node }
-    {
-        if self.finds_clear(node) {
-            Verdict::Clear
-        } else {
-            node.border_verdict()
-        }
-    }
-
-    // Returns the verdict of a node, where nothing that is remembered shows it.
-    fn judge_anew(&self, node: ValidNode) -> Verdict
-        requires named { node.search.now ≡ N.search }
-        ensures { result ≡ verdict_of N.search node.entry.node }
-    {
-        match node.border() {
-            None => self.judge_open(node),
-            Some(_) => self.judge_border(node),
+            node.borderless_verdict(self)
         }
     }
 
@@ -329,9 +214,12 @@ impl<N: Naming> Memory<N> {
         requires named { node.search.now ≡ N.search }
         ensures { result ≡ verdict_of N.search node.entry.node }
     {
-        match self.verdict(node) {
+        match self.remembered_verdict(node) {
             Some(verdict) => verdict,
-            None => self.judge_anew(node),
+            None => match node.nearest_border() {
+                None => self.uncrossed_verdict(node),
+                Some(_) => self.crossed_verdict(node),
+            },
         }
     }
 }

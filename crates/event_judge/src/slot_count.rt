@@ -2,24 +2,23 @@
 ghost use Rattle.std.specs.Prelude.{◌<◌};
 ghost use Rattle.event_judge.specs.Listed.{slot_count};
 
-/// The number of slots for the values of steps: few where few are wanted, since slots are cleared before they are
-/// used.
+/// The number of slots for the values of steps: few if few are wanted, since all are cleared before they are used.
 #[derive(Clone, Copy)]
 pub(crate) enum SlotCount {
-    Of32,
+    Of28,
     Of64,
     Of128,
     Of256,
 }
 
 impl SlotCount {
-    /// Returns the fewest slots with one for the step with a number.
-    pub fn for_place(place: usize) -> SlotCount
+    /// Returns the smallest of the four numbers of slots that gives one to the step with a number.
+    pub fn fewest_for_step(place: usize) -> SlotCount
         requires { place < 256 }
         ensures { place < slot_count result }
     {
-        if place < 32 {
-            SlotCount::Of32
+        if place < 28 {
+            SlotCount::Of28
         } else if place < 64 {
             SlotCount::Of64
         } else if place < 128 {

@@ -1,8 +1,7 @@
-// Steady spans and spans of one sign, by bounds: the signs at two ends, or one sign between them, show the verdict
-// of each node between them.
+// Steady spans and spans of one sign, by bounds: they show the verdict of each node between their ends.
 ghost use Rattle.std.specs.Prelude.{◌≡◌, ◌↔◌, ◌<ℤ◌, All, IfNone, IfSome, IsTrue, false, true};
 ghost use Rattle.spec_bodies.specs.Views.{Fits};
-ghost use Rattle.spec_events.specs.Verdict.{is_known, is_one_way};
+ghost use Rattle.spec_events.specs.Verdict.{is_known};
 ghost use Rattle.spec_bounds.specs.Steady.{IsSteady, is_certified_over};
 ghost use Rattle.spec_bounds.specs.Terms.{bound_over};
 ghost use Rattle.spec_bounds.specs.Quiet.{sign_over};
@@ -11,18 +10,18 @@ ghost use Rattle.event_bounds.specs.Made.{IsBound};
 ghost use Rattle.event_judge.specs.Listed.{IsSlotOf, slot_count};
 ghost use Rattle.event_judge.specs.Quiet.{HasSign};
 
-use crate::conditions::certifies;
+use crate::conditions::sign_certifies;
 use crate::event_search::EventSearch;
 use crate::listed_event::ListedEvent;
-use crate::steps::leads_one_way;
+use crate::steps::is_monotone;
 use column_steps::{StepList, StepPlace};
 use event_bounds::{Bound, bound_over};
 use event_expr::Formula;
 use event_kinds::Guard;
 use ival_core::Sign;
 
-// Returns the sign, where it is known: `Yes` or `No`. Else it returns none.
-fn known(sign: Sign) -> Option<Sign>
+// Returns a sign that is known, `Yes` or `No`, or none for `Open`.
+fn known_sign(sign: Sign) -> Option<Sign>
     ensures some { IfSome result (λ found. (found ≡ sign) × (is_known sign ≡ true)) }
     ensures none { IfNone result (is_known sign ≡ false) }
 {
@@ -33,14 +32,13 @@ fn known(sign: Sign) -> Option<Sign>
 }
 
 impl<'e> EventSearch<'e> {
-    /// Tells whether the search is steady from `a` to `b`, between which no granule begins, by the bounds of its
-    /// function and of its conditions.
+    /// Tells whether the search is steady from `a` to `b`: by bounds the function is monotone and the conditions hold.
     pub(crate) fn is_steady(&self, a: i64, b: i64) -> bool
         requires fits { Fits self.now.view a b }
         requires several { a <ℤ b }
         ensures { IsTrue result ↔ IsSteady self.now a b }
     {
-        self.leads_one_way(a, b) && self.are_certified(a, b)
+        is_monotone(self.function_bound(a, b).step) && self.are_certified(a, b)
     }
 
     /// Returns the bound of the event's function from `a` to `b`, between which no granule begins.
@@ -51,16 +49,8 @@ impl<'e> EventSearch<'e> {
         bound_over(self.function_step(), self.states(), a, b)
     }
 
-    // Tells whether the function is monotone from `a` to `b`, by its bound.
-    fn leads_one_way(&self, a: i64, b: i64) -> bool
-        requires { Fits self.now.view a b }
-        ensures { result ≡ is_one_way (bound_over self.now.view self.now.event.function a b).step }
-    {
-        leads_one_way(self.function_bound(a, b).step)
-    }
-
-    // Returns the bound of a formula that has no step in the event's list, by a list of its own.
-    fn own_bound(&self, formula: &Formula, a: i64, b: i64) -> Bound
+    // Returns the bound of a formula from `a` to `b`, by steps made for it alone: the event's list had no room for it.
+    fn bound_by_own_steps(&self, formula: &Formula, a: i64, b: i64) -> Bound
         requires { Fits self.now.view a b }
         ensures { IsBound result (bound_over self.now.view formula.now a b) }
     {
@@ -70,8 +60,7 @@ impl<'e> EventSearch<'e> {
         bound_over(StepPlace { steps, place }, states, a, b)
     }
 
-    // Returns the bound of a condition's formula, by the step that stands for it, or by a list of its own where
-    // none does.
+    // Returns the bound of a condition's formula from `a` to `b`, by the event's step with this number, or own steps.
     fn guard_bound(
         &self,
         guard: &Guard,
@@ -88,11 +77,11 @@ impl<'e> EventSearch<'e> {
         let steps = &listed.steps;
         match number {
             Some(place) => bound_over(StepPlace { steps, place }, self.states(), a, b),
-            None => self.own_bound(guard.formula(), a, b),
+            None => self.bound_by_own_steps(guard.formula(), a, b),
         }
     }
 
-    // Tells whether a condition holds at each time from `a` to `b`, by its bound.
+    // Tells whether a condition holds at each time from `a` to `b`, by the bound of its formula.
     fn is_certified(
         &self,
         guard: &Guard,
@@ -107,33 +96,32 @@ impl<'e> EventSearch<'e> {
         ensures { result ≡ is_certified_over self.now a b guard.now }
     {
         let bound = self.guard_bound(guard, listed, number, a, b);
-        certifies(guard.at_least(), bound.range.sign())
+        sign_certifies(guard.at_least(), bound.range.sign())
     }
 
-    // Tells whether each condition holds at each time from `a` to `b`, by their bounds.
+    // Tells whether each condition of the event holds at each time from `a` to `b`, by the bounds of their formulas.
     fn are_certified(&self, a: i64, b: i64) -> bool
         requires { Fits self.now.view a b }
         ensures { IsTrue result
             ↔ All (λ c. is_certified_over self.now a b c ≡ true) self.now.event.conditions }
     {
-        let listed = self.listed();
+        let listed = self.event_steps();
         let guards = self.event().guards();
         for place in 0..guards.len() {
-            if !self.is_certified(&guards[place], listed, listed.guard(place), a, b) {
+            if !self.is_certified(&guards[place], listed, listed.guard_step(place), a, b) {
                 return false;
             }
         }
         true
     }
 
-    /// Returns the sign that the function has from `a` to `b`, between which no granule begins, where its bound
-    /// shows one; else none.
+    /// Returns the sign of the function from `a` to `b` if its bound shows one, or none.
     pub(crate) fn sign_over(&self, a: i64, b: i64) -> Option<Sign>
         requires fits { Fits self.now.view a b }
         requires several { a <ℤ b }
         ensures some { IfSome result (λ sign. HasSign self.now a b sign) }
         ensures none { IfNone result (is_known (sign_over self.now a b) ≡ false) }
     {
-        known(self.function_bound(a, b).range.sign())
+        known_sign(self.function_bound(a, b).range.sign())
     }
 }

@@ -8,9 +8,9 @@ use gf_hooks::Steps;
 use ival_core::{Enclosure, Ival};
 use spec_events::Dir;
 
-// Returns the ends of the interval of the steps, in a unit of their own.
+// Returns the two ends of an interval of steps, in the interval's own unit.
 #[inline(always)]
-fn steps(step: &Ival) -> Steps
+fn step_ends(step: &Ival) -> Steps
     ensures lo { result.lo ≡ step.now.lo }
     ensures hi { result.hi ≡ step.now.hi }
 {
@@ -18,26 +18,18 @@ fn steps(step: &Ival) -> Steps
     Steps { lo, hi }
 }
 
-/// Tells whether a function with such steps is monotone.
+/// Tells whether a function only rises or only falls, by its steps: then signs at two ends show the turns between them.
 #[inline(always)]
-pub(crate) fn leads_one_way(step: Ival) -> bool
+pub(crate) fn is_monotone(step: Ival) -> bool
     ensures { result ≡ is_one_way step }
 {
-    gf_hooks::is_one_way(steps(&step))
+    gf_hooks::is_one_way(step_ends(&step))
 }
 
-/// Tells whether a function is monotone by its enclosure, so that its turns are known by the signs at the ends.
-#[inline(always)]
-pub(crate) fn is_one_way(over: &Enclosure) -> bool
-    ensures { result ≡ is_one_way over.now.step }
-{
-    gf_hooks::is_one_way(steps(&over.step))
-}
-
-/// Tells whether a function has one sign over all times, or its steps lead against the direction that is wanted.
+/// Tells whether an enclosure shows that its function has no wanted turn: it has one sign, or no step leads that way.
 #[inline(always)]
 pub(crate) fn is_turnless(dir: Dir, over: &Enclosure) -> bool
     ensures { result ≡ is_turnless dir (sign_of over.now.range) over.now.step }
 {
-    gf_hooks::is_turnless(dir, over.range.sign(), steps(&over.step))
+    gf_hooks::is_turnless(dir, over.range.sign(), step_ends(&over.step))
 }

@@ -5,12 +5,10 @@ use std::sync::atomic::Ordering::SeqCst;
 /// Half the greatest number of tries of which one is made.
 const MAX_HALVED_TURN: u64 = 128;
 
-/// The tries to find spans of some sort. Where several fail one after the other, later ones are left out, and the
-/// more of them the more have failed. No result depends on it.
+/// The tries to find spans of some sort. The more fail in a row, the more are left out. No result depends on it.
 #[derive(Drop)]
 pub(crate) struct Tries {
-    /// The number of tries of which one is made: 1 after the first that fails, and twice as many after each further
-    /// one. It is 0 where the last did not fail.
+    /// The number of tries of which one is made: 0 after a success, 1 after a failure, and doubled by each further one.
     turn: AtomicU64,
     /// The number of tries that are still to be left out.
     left: AtomicU64,
@@ -19,7 +17,7 @@ pub(crate) struct Tries {
 }
 
 impl Tries {
-    /// Returns the record of no try yet.
+    /// Makes the record of no tries yet.
     pub(crate) fn new() -> Tries {
         Tries {
             turn: AtomicU64::new(0),
@@ -28,8 +26,8 @@ impl Tries {
         }
     }
 
-    /// Tells whether a span is to be tried that begins at `offset`, counted from the first time of the ephemeris.
-    /// The span that failed last is not tried again. Any other try that is left out is counted.
+    /// Tells whether a span that begins at `offset`, in ticks after the ephemeris's first time, is to be tried. The
+    /// span that failed last is not tried again. Any other try that is left out is counted.
     pub(crate) fn is_worth_trying(&self, offset: u64) -> bool {
         if self.failed.load(SeqCst) == offset {
             return false;
@@ -41,8 +39,9 @@ impl Tries {
         left == 0
     }
 
-    /// Keeps whether a span was found that begins at `offset`, counted from the first time of the ephemeris.
-    pub(crate) fn keep(&self, offset: u64, is_found: bool) {
+    /// Keeps whether a try found a span that begins at `offset`, in ticks after the ephemeris's first time. After a
+    /// success no try is left out; after a failure more of them are.
+    pub(crate) fn keep_result(&self, offset: u64, is_found: bool) {
         if !is_found {
             self.keep_failure(offset);
         } else if self.turn.load(SeqCst) > 0 {
@@ -50,7 +49,7 @@ impl Tries {
         }
     }
 
-    // Keeps that no span was found that begins at `offset`, and how many tries are left out for that.
+    // Keeps that no span was found at `offset`. Each further failure leaves out about twice as many tries, up to 255.
     fn keep_failure(&self, offset: u64) {
         let turn = (self.turn.load(SeqCst).min(MAX_HALVED_TURN) * 2).max(1);
         self.turn.store(turn, SeqCst);

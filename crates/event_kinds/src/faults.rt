@@ -30,7 +30,7 @@ pub enum KindFault {
 }
 
 impl KindFault {
-    /// Returns the fault of the ask, or none where memory ran out.
+    /// Returns the fault of the ask that the error stands for, or none if the error is out of memory.
     pub fn event_fault(self) -> Option<EventFault>
         ensures { result ≡ event_fault_of self }
     {
@@ -42,8 +42,8 @@ impl KindFault {
         }
     }
 
-    // Returns the error that stands for this fault.
-    pub(crate) fn of(fault: EventFault) -> KindFault
+    /// Converts a fault of an ask to the error that stands for it.
+    pub(crate) fn from_event_fault(fault: EventFault) -> KindFault
         ensures { event_fault_of result ≡ Some fault }
     {
         match fault {
@@ -54,31 +54,33 @@ impl KindFault {
     }
 }
 
-/// Returns the first fault of an ask, in the order of their numbers, or none. It does not allocate.
-pub fn fault(eph: &Ephemeris, ask: Ask) -> Option<EventFault>
+/// Returns the first fault of an ask over an ephemeris, or none. First come absent bodies, then one body named twice,
+/// then numbers out of range. It does not allocate.
+pub fn first_fault(eph: &Ephemeris, ask: Ask) -> Option<EventFault>
     ensures { result ≡ fault_of eph.now ask }
 {
     if !has_bodies(eph, ask) {
         return Some(EventFault::BodyAbsent);
     }
-    if has_twice(ask) {
+    if names_body_twice(ask) {
         return Some(EventFault::SameBody);
     }
-    if !is_in_range(ask) {
+    if !are_numbers_in_range(ask) {
         return Some(EventFault::ReferenceRange);
     }
     None
 }
 
-// Tells whether the ephemeris has all columns that the target, the second body and the observer need.
+// Tells whether the ephemeris has all columns that the target, the second body and the observer of an ask need.
 fn has_bodies(eph: &Ephemeris, ask: Ask) -> bool
     ensures { result ≡ list_all (has_body eph.now) (bodies_of ask) }
 {
-    has_body(eph, ask.target) && has_second(eph, ask.second) && has_body(eph, ask.observer)
+    has_body(eph, ask.target) && has_second_body(eph, ask.second) && has_body(eph, ask.observer)
 }
 
-// Tells whether the ephemeris has all columns that the second body needs. No second body passes.
-fn has_second(eph: &Ephemeris, second: Option<Body>) -> bool
+// Tells whether the ephemeris has all columns that the second body of an ask needs. It needs none if there is no such
+// body.
+fn has_second_body(eph: &Ephemeris, second: Option<Body>) -> bool
     ensures { result ≡ list_all (has_body eph.now) (before second []) }
 {
     match second {
@@ -87,7 +89,7 @@ fn has_second(eph: &Ephemeris, second: Option<Body>) -> bool
     }
 }
 
-// Tells whether the ephemeris has all columns that a body needs.
+// Tells whether the ephemeris has all columns of coefficients from which the position of a body is made.
 fn has_body(eph: &Ephemeris, body: Body) -> bool
     ensures { result ≡ has_body eph.now body }
 {
@@ -98,44 +100,46 @@ fn has_body(eph: &Ephemeris, body: Body) -> bool
         .all(|number| eph.has(*number))
 }
 
-// Tells whether two of the target, the second body and the observer are one body.
-fn has_twice(ask: Ask) -> bool
+// Tells whether two of the target, the second body and the observer of an ask are one body.
+fn names_body_twice(ask: Ask) -> bool
     ensures { result ≡ has_twice (bodies_of ask) }
 {
     match ask.second {
-        None => is_same(ask.target, ask.observer),
+        None => are_same_body(ask.target, ask.observer),
         Some(second) => {
-            is_same(ask.target, second)
-                || is_same(ask.target, ask.observer)
-                || is_same(second, ask.observer)
+            are_same_body(ask.target, second)
+                || are_same_body(ask.target, ask.observer)
+                || are_same_body(second, ask.observer)
         }
     }
 }
 
 // Tells whether two bodies are the same.
-fn is_same(one: Body, other: Body) -> bool
+fn are_same_body(one: Body, other: Body) -> bool
     ensures { result ≡ is_same one other }
 {
     one == other
 }
 
-// Tells whether the numbers that the kind uses are within its range: two radii, or a reference value.
-fn is_in_range(ask: Ask) -> bool
+// Tells whether the numbers of an ask are in the range of its kind. They are two radii in km for an occultation, else a
+// reference value.
+fn are_numbers_in_range(ask: Ask) -> bool
     ensures { result ≡ are_in_range ask.kind ask.value1 ask.value2 }
 {
     if ask.kind.takes_radii() {
         is_radius(ask.value1) && is_radius(ask.value2)
     } else {
-        is_in_range_of(ask.kind.range(), ask.value1)
+        is_value_in_range(ask.kind.range(), ask.value1)
     }
 }
 
-// Tells whether a reference value is in this range.
-fn is_in_range_of(range: Range, value: Decimal) -> bool
+// Tells whether a reference value is in a range: a length in km below 2^36 in magnitude, such a distance that is at
+// least 0, a cosine of at most 1 in magnitude, or any number.
+fn is_value_in_range(range: Range, value: Decimal) -> bool
     ensures { result ≡ is_in_range range value }
 {
     match range {
-        Range::Length => is_distance(value),
+        Range::Length => is_bounded_length(value),
         Range::Distance => is_radius(value),
         Range::Cosine => is_cosine(value),
         Range::Free => true,
@@ -143,22 +147,22 @@ fn is_in_range_of(range: Range, value: Decimal) -> bool
 }
 
 // Tells whether a length in km is below 2^36 in magnitude.
-fn is_distance(km: Decimal) -> bool
+fn is_bounded_length(km: Decimal) -> bool
     ensures { result ≡ is_distance km }
 {
     is_distance_size(km.mant, km.exp)
 }
 
-// Tells whether a number is at most 1 in magnitude.
+// Tells whether a number is at most 1 in magnitude, as a cosine is.
 fn is_cosine(number: Decimal) -> bool
     ensures { result ≡ is_cosine number }
 {
     is_cosine_size(number.mant, number.exp)
 }
 
-// Tells whether a length in km is at least 0 and below 2^36.
+// Tells whether a length in km is at least 0 and below 2^36, as a radius or a distance is.
 fn is_radius(km: Decimal) -> bool
     ensures { result ≡ is_radius km }
 {
-    km.mant >= 0 && is_distance(km)
+    km.mant >= 0 && is_bounded_length(km)
 }

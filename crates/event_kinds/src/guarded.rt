@@ -25,14 +25,14 @@ impl Model for Guard {
 }
 
 impl Guard {
-    /// Returns the formula of the condition.
+    /// Returns the formula by whose sign the guard holds or not.
     pub fn formula(&self) -> &Formula
         ensures { result.now ≡ self.now.term }
     {
         &self.g
     }
 
-    /// Tells whether the formula has to be at least 0; else it has to be below 0.
+    /// Tells whether the guard holds while its formula is at least 0. If not, it holds while the formula is below 0.
     pub fn at_least(&self) -> bool
         ensures { result ≡ self.now.at_least }
     {
@@ -72,7 +72,7 @@ impl Model for Event {
 }
 
 impl Event {
-    /// Returns the function whose passes of 0 are the event's times.
+    /// Returns the function of the event, which passes 0 at the event's times.
     pub fn function(&self) -> &Formula
         ensures function { result.now ≡ self.now.function }
         ensures formulas { AreFormulas self.now }
@@ -80,14 +80,14 @@ impl Event {
         &self.f
     }
 
-    /// Returns the guards, all of which have to hold at the event.
+    /// Returns the guards of the event, all of which hold at its times.
     pub fn guards(&self) -> &[Guard]
         ensures { result.now ≡ self.now.conditions }
     {
         self.guards.as_slice()
     }
 
-    /// Returns the direction of the passes of 0 that are wanted.
+    /// Returns the direction in which the function has to pass 0: up, down or either.
     pub fn dir(&self) -> Dir
         ensures { result ≡ self.now.dir }
     {

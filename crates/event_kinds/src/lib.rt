@@ -11,7 +11,7 @@ mod rows;
 mod table;
 mod vectors;
 
-pub use asks::{is_ask, takes_second};
+pub use asks::is_ask;
 pub use faults::KindFault;
 pub use guarded::{Event, Guard};
 pub use spec_bodies::Frame;

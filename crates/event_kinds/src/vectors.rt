@@ -20,7 +20,8 @@ pub const TARGET_VELOCITY: Vector = Vector::Velocity(0);
 /// The velocity of the second body.
 pub const SECOND_VELOCITY: Vector = Vector::Velocity(1);
 
-/// Returns `u0 v0 + u1 v1`, the dot product in the plane of x and y. The only error is out of memory.
+/// Returns the expression `u0 v0 + u1 v1`, the dot product of two vectors in the plane of x and y. The only error is
+/// out of memory.
 pub fn plane_dot(alloc: Global, u: Vector, v: Vector) -> Result<Expr, AllocError>
     requires u { IsVector u }
     requires v { IsVector v }
@@ -31,8 +32,8 @@ pub fn plane_dot(alloc: Global, u: Vector, v: Vector) -> Result<Expr, AllocError
     sum(alloc, x, y)
 }
 
-/// Returns `u0 v1 - u1 v0`, which is 0 where both vectors have one direction in the plane of x and y, or opposite
-/// ones. The only error is out of memory.
+/// Returns the expression `u0 v1 - u1 v0`, the cross product of two vectors in the plane of x and y. It is 0 if they
+/// have one direction there, or opposite ones. The only error is out of memory.
 pub fn plane_cross(alloc: Global, u: Vector, v: Vector) -> Result<Expr, AllocError>
     requires u { IsVector u }
     requires v { IsVector v }

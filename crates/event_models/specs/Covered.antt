@@ -17,6 +17,6 @@ pub record IsCovered (m : Model) (p q : ℤ) (x : Interval) : Type 0 where
 abbrev pub IsModelOf : ℤ → ℤ → Model → (ℤ → Interval) → Type 0
 IsModelOf c d m f = (t : ℤ) → c ≤ℤ t → t ≤ℤ d → IsCovered m (argument c d t) (d -ℤ c) (f t)
 
--- where a model is made, it does
+-- if a model is made, it does
 abbrev pub IsIfMade : ℤ → ℤ → Option Model → (ℤ → Interval) → Type 0
 IsIfMade c d made f = IfSome made (λ m. IsModelOf c d m f)

@@ -1,5 +1,5 @@
 -- The rows of the granules of columns over some times, and the models of sums with them.
-use Rattle.std.specs.Prelude.{◌≡◌, ℕ, ◌^◌, ◌≤◌, ℤ, pos, ◌+ℤ◌, ◌-ℤ◌, ◌*ℤ◌, ◌≤ℤ◌, unsigned_abs, All, List, Option, IfSome}
+use Rattle.std.specs.Prelude.{◌≡◌, ℕ, ◌^◌, ◌≤◌, ℤ, pos, ◌+ℤ◌, ◌-ℤ◌, ◌*ℤ◌, ◌≤ℤ◌, unsigned_abs, All, Option, IfSome, take}
 use Rattle.spec_numbers.specs.Numbers.{floor_div}
 use Rattle.spec_chebyshev.specs.declared.ends.Ival62.{Ival62}
 use Rattle.spec_chebyshev.specs.Differences.{IsArgument}
@@ -16,6 +16,7 @@ use Rattle.spec_models.specs.Models.{Covers, Model}
 use Rattle.spec_covers.specs.Series.{argument_unit, double_unit, of_entry, value_sum}
 use Rattle.event_models.specs.declared.rows.Line.{Line}
 use Rattle.event_models.specs.declared.row_room.RowRoom.{RowRoom}
+use Rattle.event_models.specs.declared.rooms.RowRooms.{RowRooms}
 use Rattle.event_models.specs.Covered.{IsIfMade, argument}
 use Rattle.event_models.specs.Rows.{AreEntries, AreSumRows, of_line}
 
@@ -57,8 +58,10 @@ pub record AreMade (quantity : Quantity) (c d : ℤ) (r : RowRoom) : Type 0 wher
   pub sums : AreSumRows r.entries r.rows
   pub covers : AreEntriesOf quantity (line_over c d r.start (unsigned_abs r.seconds)) r
 
-abbrev pub AreRooms : Quantity → ℤ → ℤ → List RowRoom → Type 0
-AreRooms quantity c d = All (AreMade quantity c d)
+-- those up to the count are made; what stands behind them is not read
+pub record AreRooms (quantity : Quantity) (c d : ℤ) (r : RowRooms) : Type 0 where
+  pub few : r.count ≤ 4
+  pub made : All (AreMade quantity c d) (take r.count r.rooms)
 
 -- the rows are those of a granule
 pub record IsServed (g : Granule) (r : RowRoom) : Type 0 where
@@ -70,7 +73,7 @@ pub record IsServed (g : Granule) (r : RowRoom) : Type 0 where
 abbrev pub IsSumModel : Quantity → ℤ → ℤ → Series → Model → Type 0
 IsSumModel quantity c d s m = (t : ℤ) → c ≤ℤ t → t ≤ℤ d → Covers m (argument c d t) (d -ℤ c) (value_sum quantity s t)
 
--- of an axis of a granule, where one is made
+-- of an axis of a granule, if one is made
 abbrev pub AreAxisSums : Quantity → ℤ → ℤ → Granule → ℕ → Option Model → Type 0
 AreAxisSums quantity c d g axis made = IfSome made (IsSumModel quantity c d (series_of g axis))
 

@@ -17,19 +17,18 @@ use Rattle.event_models.specs.Granules.{AreRooms}
 pub record IsSpanSeen (s : Span) : Type 0 where
   pub same : s.states.now.ephemeris ≡ s.ephemeris.now
   pub fits : Fits s.states.now s.times.first s.times.last
-  pub position : AreRooms Position s.times.first s.times.last s.position.rooms
-  pub velocity : AreRooms Velocity s.times.first s.times.last s.velocity.rooms
+  pub position : AreRooms Position s.times.first s.times.last s.position.now
+  pub velocity : AreRooms Velocity s.times.first s.times.last s.velocity.now
 
 -- the interval of a term at each time
 abbrev pub term_at : Span → ColumnTerm → ℤ → Interval
 term_at s x t = point_meant s.states.now s.times.first t x
 
--- a model covers that at each time, where it is made
+-- a model covers that at each time, if it is made
 abbrev pub IsTermModel : Span → ColumnTerm → Option Model → Type 0
 IsTermModel s x made = IsIfMade s.times.first s.times.last made (term_at s x)
 
--- at each time from c to d it covers the interval of each formula that a step stands for, as the enclosure over that time alone
--- has it
+-- at each time from c to d it covers the range of each formula that a step stands for, enclosed over that time alone
 abbrev pub IsFormulaModel : View → ℤ → ℤ → Listed → ℕ → Model → Type 0
 IsFormulaModel v c d l place m = (e : Term) → IsFormula e → IsMadeAt l place (of_term (sight_of v) e)
     → (t : ℤ) → c ≤ℤ t → t ≤ℤ d → Covers m (argument c d t) (d -ℤ c) (enclosure_over (state_enclosure v) e t t).range

@@ -1,5 +1,5 @@
 // The models of the steps of a list over the columns.
-ghost use Rattle.std.specs.Prelude.{◌≡◌, ◌<◌, ◌≤◌, ◌<ℤ◌, IfSome, ℤ};
+ghost use Rattle.std.specs.Prelude.{◌≡◌, ◌<◌, ◌<ℤ◌, IfSome, ℤ};
 ghost use Rattle.spec_intervals.specs.Interval.{Interval, product};
 ghost use Rattle.spec_bodies.specs.Views.{Fits};
 ghost use Rattle.spec_steps.specs.ColumnTerms.{sight_of};
@@ -7,8 +7,8 @@ ghost use Rattle.column_steps.specs.Listed.{listed_term, slot_limit, step_count}
 ghost use Rattle.event_models.specs.Covered.{IsIfMade};
 ghost use Rattle.event_models.specs.Spans.{IsFormulaModel, IsSpanSeen, IsTermModel};
 
-use crate::granules::granule_of;
-use crate::spans::Span;
+use crate::granules::column_granule;
+use crate::spans::{ModelRooms, Span};
 use crate::times::ModelTimes;
 use body_states::{BodyStates, Ephemeris, Factor, Quantity};
 use column_steps::{Arithmetic, MAX_STEPS, StepList, StepPlace, fill};
@@ -22,16 +22,11 @@ use spec_steps::laws::{
 };
 use spec_text::Decimal;
 
-/// The number of slots that is enough for the steps of most formulas. It is less than the most steps that a list
-/// may have.
-const FEW_STEPS: usize = 64;
-
-/// Returns a model of a formula over the times from `c` to `d`, by the step that stands for it in a list. Parts
-/// that are the same are modelled once. At each of these times the model covers the interval of the formula, as its
-/// enclosure over that time alone has it. The ephemeris must be that of the states. None is returned where an
-/// exponent or an error passes its limit, or a signed square is not seen to have one sign. None is returned as well
-/// where no row of the first four columns in use serves a column.
+/// Returns a model over the times from `c` to `d` of the formula that a step stands for: at each time it covers the
+/// formula's enclosure there. None is returned if an exponent or an error passes its limit, a signed square is not seen
+/// to have one sign, or the columns need more than four rows. Equal parts are modelled once. Any room serves.
 pub fn model_over(
+    rooms: &mut ModelRooms,
     listed: StepPlace,
     ephemeris: &Ephemeris,
     states: &BodyStates,
@@ -50,36 +45,31 @@ pub fn model_over(
     points();
     terms_mean_their_formulas();
     let times = ModelTimes { first: c, last: d };
-    let span = Span::new(states, ephemeris, times, listed);
-    model_of(&span, listed.steps, listed.place)
+    rooms.write_rows(states, ephemeris, &times, listed);
+    let span = Span {
+        states,
+        ephemeris,
+        times,
+        position: &rooms.position,
+        velocity: &rooms.velocity,
+    };
+    step_model(&span, listed.steps, listed.place, &mut rooms.slots)
 }
 
-// Returns a model of the term of a step, or none. It uses 64 slots where these are enough, and else 256.
-fn model_of(span: &Span, steps: &StepList, place: usize) -> Option<Model>
+// Returns a model of the term of a step, by slots for it and the steps before it, or None if it or a part has no model.
+fn step_model(
+    span: &Span,
+    steps: &StepList,
+    place: usize,
+    slots: &mut [Option<Model>; MAX_STEPS],
+) -> Option<Model>
     requires seen { IsSpanSeen span.now }
     requires sight { sight_of span.now.states.now ≡ steps.now.sight }
     requires step { place < step_count steps.now }
     requires slot { place < slot_limit }
     ensures { IsTermModel span.now (listed_term steps.now place) result }
 {
-    if place < FEW_STEPS {
-        model_by::<FEW_STEPS>(span, steps, place)
-    } else {
-        model_by::<MAX_STEPS>(span, steps, place)
-    }
-}
-
-// Returns a model of the term of a step, or none, by `N` slots: one for it and for each step before it.
-fn model_by<const N: usize>(span: &Span, steps: &StepList, place: usize) -> Option<Model>
-    requires seen { IsSpanSeen span.now }
-    requires sight { sight_of span.now.states.now ≡ steps.now.sight }
-    requires step { place < step_count steps.now }
-    requires room { place < N }
-    requires few { N ≤ 256 }
-    ensures { IsTermModel span.now (listed_term steps.now place) result }
-{
-    let mut slots = [None; N];
-    fill(span, steps, 0, place + 1, &mut slots);
+    fill(span, steps, 0, place + 1, slots);
     slots[place]
 }
 
@@ -94,7 +84,7 @@ impl<'s, 'e> Arithmetic for Span<'s, 'e> {
 
     fn column(&self, quantity: Quantity, number: usize, axis: usize) -> Option<Model> {
         listed_columns_are_read();
-        let granule = granule_of(self.states, self.ephemeris, number, &self.times);
+        let granule = column_granule(self.states, self.ephemeris, number, &self.times);
         self.rows(quantity)
             .model(quantity, &granule, axis, &self.times)
     }
@@ -115,7 +105,7 @@ impl<'s, 'e> Arithmetic for Span<'s, 'e> {
 
     fn scaled(&self, factor: Factor, x: &Option<Model>) -> Option<Model> {
         let constant = Model::of_interval(self.states.factor(factor));
-        self.product_of(&constant, x)
+        self.product_model(&constant, x)
     }
 
     fn sum(&self, x: &Option<Model>, y: &Option<Model>) -> Option<Model> {
@@ -135,7 +125,7 @@ impl<'s, 'e> Arithmetic for Span<'s, 'e> {
     }
 
     fn product(&self, x: &Option<Model>, y: &Option<Model>) -> Option<Model> {
-        self.product_of(x, y)
+        self.product_model(x, y)
     }
 
     fn signed_square(&self, x: &Option<Model>) -> Option<Model> {
@@ -148,9 +138,8 @@ impl<'s, 'e> Arithmetic for Span<'s, 'e> {
 }
 
 impl<'s, 'e> Span<'s, 'e> {
-    // Returns a model of the products of what two others cover. None is returned where one of them is missing, or
-    // the product has no model.
-    fn product_of(&self, x: &Option<Model>, y: &Option<Model>) -> Option<Model>
+    // Returns a model of the product of two modelled intervals, or None if a model is missing or the product has none.
+    fn product_model(&self, x: &Option<Model>, y: &Option<Model>) -> Option<Model>
         ensures { (f g : ℤ → Interval)
             → IsIfMade self.now.times.first self.now.times.last x.now f
             → IsIfMade self.now.times.first self.now.times.last y.now g

@@ -2,26 +2,26 @@
 ghost use Rattle.std.specs.Prelude.{◌≡◌, ◌≤◌, ◌<◌};
 ghost use Rattle.event_models.specs.Rows.{AreEntriesBefore, AreRows, IsEntry, IsLine, IsRow, greatest};
 
-use crate::rows::{ENTRIES, Kind, Line, RowModel, next_row};
-use crate::starts::{first_row, second, sized};
+use crate::rows::{ENTRIES, Kind, Line, RowModel, recurrence_row};
+use crate::starts::{first_row, magnitude_row, second_row};
 
 /// The number 1 in units of 2^-42.
 const ONE: u64 = 1 << 42;
 
-/// Makes the first `n` entries, at most 32, of the row of T or of U over a line of arguments.
-pub(crate) fn fill(kind: Kind, line: &Line, n: usize, rows: &mut [RowModel; ENTRIES])
+/// Writes models of the first `n` Chebyshev polynomials, at most 32, of one kind, T or U, over a line of arguments.
+pub(crate) fn write_entries(kind: Kind, line: &Line, n: usize, rows: &mut [RowModel; ENTRIES])
     requires line { IsLine line.now }
     requires few { n ≤ 32 }
     ensures rows { AreRows n rows.new }
     ensures entries { AreEntriesBefore kind line.now n rows.new }
 {
     for k in 0..n {
-        rows[k] = entry(kind, line, rows, k);
+        rows[k] = next_entry(kind, line, rows, k);
     }
 }
 
-// Returns entry `k` of a row, from the entries before it.
-fn entry(kind: Kind, line: &Line, rows: &[RowModel; ENTRIES], k: usize) -> RowModel
+// Returns a model of the Chebyshev polynomial with number `k` over a line of arguments, from the entries before it.
+fn next_entry(kind: Kind, line: &Line, rows: &[RowModel; ENTRIES], k: usize) -> RowModel
     requires line { IsLine line.now }
     requires few { k < 32 }
     requires rows { AreRows k rows.now }
@@ -32,15 +32,14 @@ fn entry(kind: Kind, line: &Line, rows: &[RowModel; ENTRIES], k: usize) -> RowMo
     if k == 0 {
         first_row()
     } else if k == 1 {
-        second(kind, line)
+        second_row(kind, line)
     } else {
-        later(kind, line, rows, k)
+        later_entry(kind, line, rows, k)
     }
 }
 
-// Returns entry `k` of a row, 2 or later, from the two entries before it. Where their step has no model, only its
-// magnitude is used.
-fn later(kind: Kind, line: &Line, rows: &[RowModel; ENTRIES], k: usize) -> RowModel
+// Returns a model of Chebyshev polynomial `k` from the two before it, or by its greatest magnitude if that fails.
+fn later_entry(kind: Kind, line: &Line, rows: &[RowModel; ENTRIES], k: usize) -> RowModel
     requires line { IsLine line.now }
     requires many { 2 ≤ k }
     requires few { k < 32 }
@@ -49,40 +48,39 @@ fn later(kind: Kind, line: &Line, rows: &[RowModel; ENTRIES], k: usize) -> RowMo
     ensures row { IsRow result }
     ensures entry { IsEntry kind line.now k result }
 {
-    match next_row(line, &rows[k - 1], &rows[k - 2]) {
-        Some(row) => lesser(kind, row, line, k),
-        None => sized_entry(kind, line, k),
+    match recurrence_row(line, &rows[k - 1], &rows[k - 2]) {
+        Some(row) => bounded_entry(kind, row, line, k),
+        None => entry_by_magnitude(kind, line, k),
     }
 }
 
-// Returns a model of entry `k`: the row, or a model by the entry's greatest magnitude alone where the row's error
-// is above that.
-fn lesser(kind: Kind, row: RowModel, line: &Line, k: usize) -> RowModel
+// Returns the model of Chebyshev polynomial `k` with the lesser error: the one given, or the one by magnitude alone.
+fn bounded_entry(kind: Kind, row: RowModel, line: &Line, k: usize) -> RowModel
     requires few { k < 32 }
     requires row { IsRow row }
     requires entry { IsEntry kind line.now k row }
     ensures row { IsRow result }
     ensures entry { IsEntry kind line.now k result }
 {
-    if row.error <= greatest(kind, k) * ONE {
+    if row.error <= greatest_magnitude(kind, k) * ONE {
         row
     } else {
-        sized_entry(kind, line, k)
+        entry_by_magnitude(kind, line, k)
     }
 }
 
-// Returns the model of entry `k` by its greatest magnitude alone.
-fn sized_entry(kind: Kind, line: &Line, k: usize) -> RowModel
+// Returns a model of Chebyshev polynomial `k`: 0, with its greatest magnitude as error. Only the contract uses `line`.
+fn entry_by_magnitude(kind: Kind, line: &Line, k: usize) -> RowModel
     requires few { k < 32 }
     ensures row { IsRow result }
     ensures entry { IsEntry kind line.now k result }
 {
     let _line = line;
-    sized(greatest(kind, k))
+    magnitude_row(greatest_magnitude(kind, k))
 }
 
-// Returns a number that no value of entry `k` passes in magnitude: 1 for T, and k + 1 for U.
-fn greatest(kind: Kind, k: usize) -> u64
+// Returns the greatest magnitude of the Chebyshev polynomial with number `k` from -1 to 1: 1 for T, and k + 1 for U.
+fn greatest_magnitude(kind: Kind, k: usize) -> u64
     requires few { k < 32 }
     ensures equals { result ≡ greatest kind k }
     ensures small { result ≤ 32 }

@@ -4,26 +4,25 @@ ghost use Rattle.event_models.specs.declared.rows.Kind.TheVariants.{Second};
 ghost use Rattle.event_models.specs.Rows.{AreEntriesBefore, AreRows, AreSumRows, IsLine, IsSumRow};
 ghost use Rattle.event_models.specs.Slopes.{AreEntriesSlope, IsEntrySlope};
 
-use crate::filling::fill;
-use crate::multiples::{multiple, no_entry};
+use crate::filling::write_entries;
+use crate::multiples::{entry_multiple, zero_entry};
 use crate::rows::{ENTRIES, Kind, Line, RowModel};
 
-/// Makes the first `n` entries, from 1 to 32, of the row of k U_(k-1), of which the first is 0. The entries of U
-/// are made first, and are then replaced.
-pub(crate) fn fill_slopes(line: &Line, n: usize, rows: &mut [RowModel; ENTRIES])
+/// Writes models of `k U_(k-1)`, the derivative of `T_k`, for `k` below `n`, at most 32, over a line of arguments.
+pub(crate) fn write_slope_entries(line: &Line, n: usize, rows: &mut [RowModel; ENTRIES])
     requires line { IsLine line.now }
     requires some { 1 ≤ n }
     requires few { n ≤ 32 }
     ensures rows { AreSumRows n rows.new }
     ensures entries { AreEntriesSlope line.now n rows.new }
 {
-    fill(Kind::Second, line, n - 1, rows);
-    turn_slopes(line, n, rows);
+    write_entries(Kind::Second, line, n - 1, rows);
+    replace_by_slopes(line, n, rows);
 }
 
-// Replaces the first `n` - 1 entries of U by the first `n` entries of the row of k U_(k-1), from the last to the
-// first.
-fn turn_slopes(line: &Line, n: usize, rows: &mut [RowModel; ENTRIES])
+// Replaces the first `n` - 1 entries of U by the first `n` entries of the row of k U_(k-1). It goes from the last to the
+// first, so that each is made of an entry that is not replaced yet.
+fn replace_by_slopes(line: &Line, n: usize, rows: &mut [RowModel; ENTRIES])
     requires few { n ≤ 32 }
     requires rows { AreRows (n - 1) rows.old }
     requires entries { AreEntriesBefore Second line.now (n - 1) rows.old }
@@ -32,12 +31,12 @@ fn turn_slopes(line: &Line, n: usize, rows: &mut [RowModel; ENTRIES])
 {
     for i in 0..n {
         let k = n - 1 - i;
-        rows[k] = entry_slope(line, rows, k);
+        rows[k] = slope_entry(line, rows, k);
     }
 }
 
-// Returns entry `k` of the row of k U_(k-1), from the entries of U.
-fn entry_slope(line: &Line, entries: &[RowModel; ENTRIES], k: usize) -> RowModel
+// Returns the model of `k U_(k-1)` over a line of arguments, from the entries of U. It is 0 for a `k` of 0.
+fn slope_entry(line: &Line, entries: &[RowModel; ENTRIES], k: usize) -> RowModel
     requires few { k < 32 }
     requires rows { AreRows k entries.now }
     requires entries { AreEntriesBefore Second line.now k entries.now }
@@ -45,8 +44,8 @@ fn entry_slope(line: &Line, entries: &[RowModel; ENTRIES], k: usize) -> RowModel
     ensures entry { IsEntrySlope line.now k result }
 {
     if k == 0 {
-        no_entry()
+        zero_entry()
     } else {
-        multiple(&entries[k - 1], k)
+        entry_multiple(&entries[k - 1], k)
     }
 }

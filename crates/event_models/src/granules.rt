@@ -12,8 +12,8 @@ use crate::times::ModelTimes;
 use body_states::{BodyStates, Ephemeris};
 use eph_model::{Granule, Rounded};
 
-/// Returns the granule of a column in use in which some times lie.
-pub(crate) fn granule_of<'e>(
+/// Returns the granule of a column in which some times lie. The column is one that the states use.
+pub(crate) fn column_granule<'e>(
     states: &BodyStates,
     ephemeris: &'e Ephemeris,
     number: usize,
@@ -29,8 +29,8 @@ pub(crate) fn granule_of<'e>(
     ephemeris.granule(number, times.first)
 }
 
-/// Returns the coefficients of an axis of a granule as pairs of rounded numbers, in order.
-pub(crate) fn axis_pairs<'g>(granule: &Granule<'g>, axis: usize) -> &'g [Rounded]
+/// Returns a granule's coefficients along an axis in order, each rounded down and rounded up to units of 2^-24.
+pub(crate) fn axis_coefficients<'g>(granule: &Granule<'g>, axis: usize) -> &'g [Rounded]
     requires granule { IsEvaluable granule.now }
     requires axis { axis < granule.now.comps }
     ensures pairs { ArePairs result.now }

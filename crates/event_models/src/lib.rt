@@ -1,9 +1,8 @@
 //! Models of what is seen of two bodies over a span of times: at each time they cover the interval of a formula.
 //!
-//! In come the states of two bodies, a list of steps over the columns, the step that stands for a formula, and a
-//! span between whose times no granule begins. Out comes a model of the formula, where one can be made. Here are
-//! the models of columns and the rules by which models are made from others (`Arithmetic`). How a body is made of
-//! columns is said by the list. No call allocates.
+//! In come the states of two bodies, a list of steps over columns, the step of a formula, and a span between whose
+//! times no granule begins. Out comes a model of the formula, if one can be made, by models of columns and rules
+//! (`Arithmetic`). The list says how bodies are made of columns. The caller lends `ModelRooms`. No call allocates.
 #![tactic(auto)]
 
 mod by_steps;
@@ -22,3 +21,4 @@ mod times;
 mod values;
 
 pub use by_steps::model_over;
+pub use spans::ModelRooms;

@@ -9,9 +9,8 @@ use crate::times::ModelTimes;
 use eph_model::Granule;
 use ival_core::Divider;
 
-/// Returns the argument of a granule in the middle of some times within it, and by how much it grows from there to
-/// the last of them. Both are in units of 2^-60.
-pub(crate) fn line_of(granule: &Granule, times: &ModelTimes) -> Line
+/// Returns a granule's argument in the middle of some times, and its growth from there to the last, in units of 2^-60.
+pub(crate) fn granule_line(granule: &Granule, times: &ModelTimes) -> Line
     requires granule { IsGranuleOver times.now.first times.now.last granule.now }
     ensures within { IsLine result }
     ensures equals { result ≡ line_over times.now.first times.now.last granule.now.start
@@ -21,13 +20,13 @@ pub(crate) fn line_of(granule: &Granule, times: &ModelTimes) -> Line
     let upto = times.last - granule.start;
     let divider = Divider::of(granule.seconds);
     Line {
-        middle: part(&divider, after + upto - granule.seconds),
-        slope: part(&divider, upto - after),
+        middle: ratio_in_units(&divider, after + upto - granule.seconds),
+        slope: ratio_in_units(&divider, upto - after),
     }
 }
 
-// Returns `floor(z 2^60 / seconds)`, at most 2^60 in magnitude.
-fn part(divider: &Divider, z: i64) -> i64
+// Returns `z` divided by a granule's length in units of 2^-60, rounded down: at most 2^60 in magnitude.
+fn ratio_in_units(divider: &Divider, z: i64) -> i64
     requires small { unsigned_abs z ≤ divider.now }
     requires short { divider.now ≤ 2 ^ 40 }
     requires some { 1 ≤ divider.now }

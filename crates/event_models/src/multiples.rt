@@ -7,8 +7,8 @@ ghost use Rattle.event_models.specs.Slopes.{IsMultiple, IsNothing};
 use crate::rows::RowModel;
 use span_models::TERMS;
 
-/// Returns the entry of a row that is 0.
-pub(crate) fn no_entry() -> RowModel
+/// Returns the entry of a row that is 0 without an error.
+pub(crate) fn zero_entry() -> RowModel
     ensures row { IsSumRow result }
     ensures nothing { IsNothing result }
 {
@@ -19,22 +19,22 @@ pub(crate) fn no_entry() -> RowModel
     }
 }
 
-/// Returns `k` times an entry of a row, with `k` below 32.
-pub(crate) fn multiple(row: &RowModel, k: usize) -> RowModel
+/// Returns the model of `k` times an entry of a row, with `k` below 32.
+pub(crate) fn entry_multiple(row: &RowModel, k: usize) -> RowModel
     requires few { k < 32 }
     requires row { IsRow row.now }
     ensures row { IsSumRow result }
     ensures multiple { IsMultiple k row.now result }
 {
     RowModel {
-        coefficients: numbers(&row.coefficients, k),
-        size: repeated(row.size, k),
-        error: repeated(row.error, k),
+        coefficients: coefficient_multiples(&row.coefficients, k),
+        size: size_multiple(row.size, k),
+        error: size_multiple(row.error, k),
     }
 }
 
-// Returns `k` times each coefficient.
-fn numbers(coefficients: &[i64; TERMS], k: usize) -> [i64; TERMS]
+// Returns `k` times each coefficient of an entry, in order, with `k` below 32.
+fn coefficient_multiples(coefficients: &[i64; TERMS], k: usize) -> [i64; TERMS]
     requires few { k < 32 }
     requires numbers { AreNumbers coefficients.now }
     ensures count { length result ≡ terms }
@@ -45,14 +45,14 @@ fn numbers(coefficients: &[i64; TERMS], k: usize) -> [i64; TERMS]
 {
     let mut numbers = [0; TERMS];
     for j in 0..TERMS {
-        numbers[j] = number(coefficients[j], k);
+        numbers[j] = coefficient_multiple(coefficients[j], k);
     }
     numbers
 }
 
-// Returns `k z`.
+// Returns `k` times a coefficient of an entry, at most 2^60 in magnitude.
 #[inline(always)]
-fn number(z: i64, k: usize) -> i64
+fn coefficient_multiple(z: i64, k: usize) -> i64
     requires few { k < 32 }
     requires small { unsigned_abs z ≤ row_limit }
     ensures equals { result ≡ pos k *ℤ z }
@@ -61,8 +61,8 @@ fn number(z: i64, k: usize) -> i64
     k as i64 * z
 }
 
-// Returns `k size`.
-fn repeated(size: u64, k: usize) -> u64
+// Returns `k` times the sum of magnitudes or the error of an entry.
+fn size_multiple(size: u64, k: usize) -> u64
     requires few { k < 32 }
     requires small { size ≤ 2 ^ 59 }
     ensures equals { result ≡ k * size }

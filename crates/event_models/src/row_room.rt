@@ -2,17 +2,16 @@
 ghost use Rattle.std.specs.Prelude.{◌≡◌, IsTrue};
 ghost use Rattle.event_models.specs.Granules.{AreMade, IsGranuleOver, IsServed};
 
-use crate::filling::fill;
-use crate::filling_slopes::fill_slopes;
-use crate::lines::line_of;
+use crate::filling::write_entries;
+use crate::filling_slopes::write_slope_entries;
+use crate::lines::granule_line;
 use crate::rows::{ENTRIES, Kind, RowModel};
 use crate::times::ModelTimes;
 use body_states::Quantity;
 use eph_model::Granule;
 use span_models::TERMS;
 
-/// The row of a quantity. The start, the length in units of time and the number of entries say which granules it
-/// serves.
+/// The row of a quantity, with the start, length (in units of time) and entries that say which granules it serves.
 #[derive(Clone, Copy)]
 pub(crate) struct RowRoom {
     pub start: i64,
@@ -22,7 +21,7 @@ pub(crate) struct RowRoom {
 }
 
 impl RowRoom {
-    /// Returns room in which no entry is made.
+    /// Returns room in which no entry is made, so that it serves no granule.
     pub fn new() -> RowRoom
         ensures { result.entries ≡ 0 }
     {
@@ -39,27 +38,26 @@ impl RowRoom {
         }
     }
 
-    /// Tells whether the row is made for granules with the start and the length of this one. It must have at least
-    /// as many entries as the granule has coefficients.
+    /// Tells whether the row serves a granule: one with its start and length, and no more coefficients than entries.
     pub fn serves(&self, granule: &Granule) -> bool
         ensures { IsTrue result → IsServed granule.now self.now }
     {
         granule.start == self.start && granule.seconds == self.seconds && granule.n <= self.entries
     }
 
-    /// Makes the row of a granule over some times, with one entry for each coefficient of the granule.
-    pub fn make(&mut self, granule: &Granule, times: &ModelTimes, quantity: Quantity)
+    /// Replaces the row by a granule's: for each coefficient a model of T_k for positions, of k U_(k-1) for velocities.
+    pub fn write_row(&mut self, granule: &Granule, times: &ModelTimes, quantity: Quantity)
         requires granule { IsGranuleOver times.now.first times.now.last granule.now }
         ensures made { AreMade quantity times.now.first times.now.last self.new }
         ensures served { IsServed granule.now self.new }
     {
-        let line = line_of(granule, times);
+        let line = granule_line(granule, times);
         self.start = granule.start;
         self.seconds = granule.seconds;
         self.entries = granule.n;
         match quantity {
-            Quantity::Position => fill(Kind::First, &line, granule.n, &mut self.rows),
-            Quantity::Velocity => fill_slopes(&line, granule.n, &mut self.rows),
+            Quantity::Position => write_entries(Kind::First, &line, granule.n, &mut self.rows),
+            Quantity::Velocity => write_slope_entries(&line, granule.n, &mut self.rows),
         }
     }
 }

@@ -12,8 +12,7 @@ const LIMIT: u64 = 1 << 55;
 /// The number of entries of a whole row.
 pub(crate) const ENTRIES: usize = 32;
 
-/// A polynomial of the argument of a span, with the sum of the magnitudes of its coefficients and a bound of its
-/// error.
+/// A polynomial of a span's argument, with the sum of its coefficients' magnitudes and a bound of its error.
 #[derive(Clone, Copy)]
 pub(crate) struct RowModel {
     pub coefficients: [i64; TERMS],
@@ -35,24 +34,23 @@ pub(crate) enum Kind {
     Second,
 }
 
-/// Returns the next entry of a row: twice the argument times the last entry, less the entry before it. None is
-/// returned where a coefficient or the error is too large.
-pub(crate) fn next_row(line: &Line, last: &RowModel, before: &RowModel) -> Option<RowModel>
+/// Returns the next entry of a row by the recurrence of Chebyshev polynomials of both kinds: twice the argument times
+/// the last entry, less the entry before it. None is returned if a coefficient or the error is above 2^55 units.
+pub(crate) fn recurrence_row(line: &Line, last: &RowModel, before: &RowModel) -> Option<RowModel>
     requires line { IsLine line.now }
     requires last { IsRow last.now }
     requires before { IsRow before.now }
     ensures row { IfSome result IsRow }
     ensures step { IfSome result (IsStep line.now last.now before.now) }
 {
-    row_of(
-        &step_numbers(line, last, before),
-        step_error(line, last, before),
+    small_row(
+        &recurrence_numbers(line, last, before),
+        recurrence_error(line, last, before),
     )
 }
 
-// Returns the model with these coefficients and this error. None is returned where one of these numbers is above
-// 2^55 in magnitude.
-fn row_of(coefficients: &[i64; TERMS], error: u64) -> Option<RowModel>
+// Returns the entry with these coefficients and this error, or None if one of them is above 2^55 in magnitude.
+fn small_row(coefficients: &[i64; TERMS], error: u64) -> Option<RowModel>
     requires count { length coefficients.now ≡ terms }
     ensures row { IfSome result IsRow }
     ensures numbers { IfSome result (IsRowOf coefficients.now error) }
@@ -60,7 +58,7 @@ fn row_of(coefficients: &[i64; TERMS], error: u64) -> Option<RowModel>
     if error <= LIMIT && are_small(coefficients) {
         Some(RowModel {
             coefficients: *coefficients,
-            size: sizes_of(coefficients),
+            size: magnitude_sum(coefficients),
             error,
         })
     } else {
@@ -82,8 +80,8 @@ fn is_small(z: i64) -> bool
     z.unsigned_abs() <= LIMIT
 }
 
-// Returns the sum of the coefficients' magnitudes.
-fn sizes_of(numbers: &[i64; TERMS]) -> u64
+// Returns the sum of the magnitudes of an entry's coefficients.
+fn magnitude_sum(numbers: &[i64; TERMS]) -> u64
     requires { AreNumbers numbers.now }
     ensures equals { result ≡ sizes numbers.now }
     ensures small { result ≤ terms * row_limit }
@@ -95,8 +93,8 @@ fn sizes_of(numbers: &[i64; TERMS]) -> u64
     sum
 }
 
-// Returns the coefficients of the next entry of a row.
-fn step_numbers(line: &Line, last: &RowModel, before: &RowModel) -> [i64; TERMS]
+// Returns the coefficients of the next entry of a row, by the recurrence from the two entries before it.
+fn recurrence_numbers(line: &Line, last: &RowModel, before: &RowModel) -> [i64; TERMS]
     requires line { IsLine line.now }
     requires last { IsRow last.now }
     requires before { IsRow before.now }
@@ -106,14 +104,14 @@ fn step_numbers(line: &Line, last: &RowModel, before: &RowModel) -> [i64; TERMS]
 {
     let mut numbers = [0; TERMS];
     for k in 0..TERMS {
-        numbers[k] = number_at(line, last, before, k);
+        numbers[k] = recurrence_number(line, last, before, k);
     }
     numbers
 }
 
-// Returns coefficient `k` of the next entry of a row.
+// Returns coefficient `k` of the next entry of a row, by the recurrence from the two entries before it.
 #[inline(always)]
-fn number_at(line: &Line, last: &RowModel, before: &RowModel, k: usize) -> i64
+fn recurrence_number(line: &Line, last: &RowModel, before: &RowModel, k: usize) -> i64
     requires line { IsLine line.now }
     requires last { IsRow last.now }
     requires before { IsRow before.now }
@@ -122,14 +120,15 @@ fn number_at(line: &Line, last: &RowModel, before: &RowModel, k: usize) -> i64
         ≡ step_number line.now last.now.coefficients before.now.coefficients k }
     ensures small { unsigned_abs result ≤ 2 ^ 58 }
 {
-    let own = inner(&last.coefficients, k);
-    let under = below(&last.coefficients, k);
-    number(line, own, under, before.coefficients[k])
+    let own = kept_coefficient(&last.coefficients, k);
+    let under = lower_coefficient(&last.coefficients, k);
+    recurrence_value(line, own, under, before.coefficients[k])
 }
 
-// Returns coefficient `k`, or 0 for the last one, whose magnitude goes into the error.
+// Returns coefficient `k` of an entry, or 0 for the last one: the argument times the entry would have one coefficient too
+// many, so that the magnitude of the last one goes into the error instead.
 #[inline(always)]
-fn inner(numbers: &[i64; TERMS], k: usize) -> i64
+fn kept_coefficient(numbers: &[i64; TERMS], k: usize) -> i64
     requires numbers { AreNumbers numbers.now }
     requires place { k < terms }
     ensures equals { result ≡ coefficient (without_last numbers.now) k }
@@ -138,20 +137,25 @@ fn inner(numbers: &[i64; TERMS], k: usize) -> i64
     if k < TERMS - 1 { numbers[k] } else { 0 }
 }
 
-// Returns the coefficient before `k`, and 0 where there is none.
+// Returns the coefficient of an entry before coefficient `k`, and 0 if there is none.
 #[inline(always)]
-fn below(numbers: &[i64; TERMS], k: usize) -> i64
+fn lower_coefficient(numbers: &[i64; TERMS], k: usize) -> i64
     requires numbers { AreNumbers numbers.now }
     requires place { k < terms }
     ensures equals { result ≡ lower (without_last numbers.now) k }
     ensures small { unsigned_abs result ≤ row_limit }
 {
-    if k == 0 { 0 } else { inner(numbers, k - 1) }
+    if k == 0 {
+        0
+    } else {
+        kept_coefficient(numbers, k - 1)
+    }
 }
 
-// Returns `floor((middle own + slope below) / 2^59) - before`.
+// Returns a coefficient of the next entry of a row: `floor((middle own + slope below) / 2^59) - before`, of the last
+// entry's coefficient of the same power and of the one below, and of the coefficient of the entry before that.
 #[inline(always)]
-fn number(line: &Line, own: i64, below: i64, before: i64) -> i64
+fn recurrence_value(line: &Line, own: i64, below: i64, before: i64) -> i64
     requires line { IsLine line.now }
     requires own { unsigned_abs own ≤ row_limit }
     requires below { unsigned_abs below ≤ row_limit }
@@ -160,12 +164,12 @@ fn number(line: &Line, own: i64, below: i64, before: i64) -> i64
         ≡ floor_div (line.now.middle *ℤ own +ℤ line.now.slope *ℤ below) (2 ^ 59) -ℤ before }
     ensures small { unsigned_abs result ≤ 2 ^ 58 }
 {
-    halves(times(line.middle, own), times(line.slope, below)) - before
+    scaled_sum(product(line.middle, own), product(line.slope, below)) - before
 }
 
-// Returns `floor((a + b) / 2^59)`.
+// Returns twice the sum of two products with a line's numbers, in the coefficients' unit: `floor((a + b) / 2^59)`.
 #[inline(always)]
-fn halves(a: i128, b: i128) -> i64
+fn scaled_sum(a: i128, b: i128) -> i64
     requires a { unsigned_abs a ≤ 2 ^ 115 }
     requires b { unsigned_abs b ≤ 2 ^ 115 }
     ensures equals { result ≡ floor_div (a +ℤ b) (2 ^ 59) }
@@ -174,9 +178,9 @@ fn halves(a: i128, b: i128) -> i64
     ((a + b) >> 59) as i64
 }
 
-// Returns `a b`, by one multiplication of 64-bit numbers.
+// Returns the exact product of two numbers, extended to 128 bits here so that one 64-bit multiplication is compiled.
 #[inline(always)]
-fn times(a: i64, b: i64) -> i128
+fn product(a: i64, b: i64) -> i128
     requires a { unsigned_abs a ≤ line_limit }
     requires b { unsigned_abs b ≤ row_limit }
     ensures equals { result ≡ a *ℤ b }
@@ -185,8 +189,8 @@ fn times(a: i64, b: i64) -> i128
     a as i128 * b as i128
 }
 
-// Returns a bound of the error of the next entry of a row.
-fn step_error(line: &Line, last: &RowModel, before: &RowModel) -> u64
+// Returns a bound of the error of the next entry of a row, in its units, from the two entries before it.
+fn recurrence_error(line: &Line, last: &RowModel, before: &RowModel) -> u64
     requires line { IsLine line.now }
     requires last { IsRow last.now }
     requires before { IsRow before.now }
@@ -198,7 +202,7 @@ fn step_error(line: &Line, last: &RowModel, before: &RowModel) -> u64
     product + before.error + (TERMS as u64 + 3)
 }
 
-// Returns `(spread own + 3 size + 3 own) / 2^59`, rounded down.
+// Returns the error of twice the argument (at most `spread`) times an entry (values `size`, error `own`), rounded down.
 #[inline(always)]
 fn product_error(spread: u64, own: u64, size: u64) -> u64
     requires spread { spread ≤ 2 ^ 61 }

@@ -9,28 +9,28 @@ use span_models::TERMS;
 /// The number 1 in units of 2^-42.
 const ONE: i64 = 1 << 42;
 
-/// Returns the model of 1, the first entry of both rows.
+/// Returns the model of 1, which is the first entry of both rows, in units of 2^-42.
 pub(crate) fn first_row() -> RowModel
     ensures row { IsRow result }
     ensures first { IsFirst result }
 {
-    of_two(ONE, 0, 2)
+    linear_row(ONE, 0, 2)
 }
 
-/// Returns the model of the second entry of a row: the argument for T, and twice the argument for U.
-pub(crate) fn second(kind: Kind, line: &Line) -> RowModel
+/// Returns the model of a row's second entry, in units of 2^-42: the argument for T, and twice the argument for U.
+pub(crate) fn second_row(kind: Kind, line: &Line) -> RowModel
     requires line { IsLine line.now }
     ensures row { IsRow result }
     ensures second { IsSecond kind line.now result }
 {
     match kind {
-        Kind::First => of_two(halved(line.middle, 18), halved(line.slope, 18), 3),
-        Kind::Second => of_two(halved(line.middle, 17), halved(line.slope, 17), 4),
+        Kind::First => linear_row(floor_shift(line.middle, 18), floor_shift(line.slope, 18), 3),
+        Kind::Second => linear_row(floor_shift(line.middle, 17), floor_shift(line.slope, 17), 4),
     }
 }
 
-// Returns `floor(z / 2^k)`.
-fn halved(z: i64, k: u32) -> i64
+// Returns the middle or the slope of an argument's line, in units of 2^-60, divided by `2^k` and rounded down.
+fn floor_shift(z: i64, k: u32) -> i64
     requires small { unsigned_abs z ≤ line_limit }
     requires many { 17 ≤ k }
     requires few { k ≤ 18 }
@@ -40,8 +40,8 @@ fn halved(z: i64, k: u32) -> i64
     z >> k
 }
 
-// Returns the model with a constant and a linear coefficient, with 0 in all others, and with an error.
-fn of_two(first: i64, second: i64, error: u64) -> RowModel
+// Returns the entry of a row with a constant and a linear coefficient, 0 for all others, and an error.
+fn linear_row(first: i64, second: i64, error: u64) -> RowModel
     requires first { unsigned_abs first ≤ 2 ^ 44 }
     requires second { unsigned_abs second ≤ 2 ^ 44 }
     requires error { error ≤ row_limit }
@@ -59,12 +59,11 @@ fn of_two(first: i64, second: i64, error: u64) -> RowModel
     }
 }
 
-/// Returns the model of an entry of which it is known only that its magnitude is at most `size`, which is at most
-/// 32.
-pub(crate) fn sized(size: u64) -> RowModel
+/// Returns the model of an entry of magnitude at most `size`: 0, with that error and 2 units for the entry's rounding.
+pub(crate) fn magnitude_row(size: u64) -> RowModel
     requires size { size ≤ 32 }
     ensures row { IsRow result }
     ensures sized { IsSized size result }
 {
-    of_two(0, 0, size * (1 << 42) + 2)
+    linear_row(0, 0, size * (1 << 42) + 2)
 }

@@ -15,28 +15,32 @@ pub(crate) struct Wide {
     pub error: u128,
 }
 
-/// Returns the sum of the coefficients from a place on, each times its entry of a row. None is returned where the
-/// two roundings of a coefficient differ by more than one.
-pub(crate) fn sum_of(pairs: &[Rounded], rows: &[RowModel; ENTRIES], from: usize) -> Option<Wide>
+/// Returns the sum of the coefficients of a series from a place on, each times its entry of a row. None is returned if
+/// the two roundings of a coefficient differ by more than one, as no coefficient of an ephemeris does.
+pub(crate) fn weighted_sum(
+    pairs: &[Rounded],
+    rows: &[RowModel; ENTRIES],
+    from: usize,
+) -> Option<Wide>
     requires pairs { ArePairs pairs.now }
     requires rows { AreSumRows (length pairs.now) rows.now }
     requires from { from ≤ length pairs.now }
     ensures within { IfSome result (IsWideWithin 32) }
     ensures covers { IfSome result (IsSumOf pairs.now rows.now from) }
 {
-    let mut wide = Wide::none();
+    let mut wide = Wide::zero();
     for i in 0..pairs.len() - from {
         let k = pairs.len() - 1 - i;
-        if is_wide(pairs[k]) {
+        if are_ends_apart(pairs[k]) {
             return None;
         }
-        wide.add(pairs[k], &rows[k], i);
+        wide.add_product(pairs[k], &rows[k], i);
     }
     Some(wide)
 }
 
-// Tells whether the two ends of a coefficient differ by more than one.
-fn is_wide(pair: Rounded) -> bool
+// Tells whether the two roundings of a coefficient differ by more than one.
+fn are_ends_apart(pair: Rounded) -> bool
     requires { IsPair pair }
     ensures { result ≡ false → pair.hi ≤ℤ (pair.lo +ℤ pos 1) }
 {
@@ -45,7 +49,7 @@ fn is_wide(pair: Rounded) -> bool
 
 impl Wide {
     /// Returns the sum of no products: 0, without an error.
-    pub fn none() -> Wide
+    pub fn zero() -> Wide
         ensures { result ≡ no_sum }
     {
         Wide {
@@ -54,9 +58,9 @@ impl Wide {
         }
     }
 
-    /// Adds a coefficient times an entry of a row. The coefficient is its lower end, or lies between this and the
-    /// next number. At most `count` products are in the sum already.
-    pub fn add(&mut self, pair: Rounded, row: &RowModel, count: usize)
+    /// Adds a coefficient times an entry of a row to the sum. The coefficient is its lower end, or lies between this and
+    /// the next number. The sum has at most `count` products before, which keeps it within 128 bits.
+    pub fn add_product(&mut self, pair: Rounded, row: &RowModel, count: usize)
         requires few { count < 32 }
         requires within { IsWideWithin count self.old }
         requires row { IsSumRow row.now }
@@ -64,14 +68,15 @@ impl Wide {
         ensures added { IsAdded pair.lo row.now self.old self.new }
         ensures within { IsWideWithin (count + 1) self.new }
     {
-        add_numbers(&mut self.coefficients, pair.lo, row, count);
-        self.error = sum_error(self.error, pair.lo, row, count);
+        add_products(&mut self.coefficients, pair.lo, row, count);
+        self.error = error_with_product(self.error, pair.lo, row, count);
     }
 }
 
-// Adds a number times the coefficients of an entry to the coefficients of the sum.
+// Adds `low`, the lower end of a coefficient of the series, times each coefficient of the model `row` to the number at
+// the same place in `numbers`, which holds the sum of `count` such products before.
 #[inline(always)]
-fn add_numbers(numbers: &mut [i128; TERMS], low: i64, row: &RowModel, count: usize)
+fn add_products(numbers: &mut [i128; TERMS], low: i64, row: &RowModel, count: usize)
     requires few { count < 32 }
     requires length { length numbers.old ≡ terms }
     requires within { AreNumbersWithin (count * 2 ^ 120) numbers.old }
@@ -83,13 +88,13 @@ fn add_numbers(numbers: &mut [i128; TERMS], low: i64, row: &RowModel, count: usi
     ensures small { AreNumbersWithin ((count + 1) * 2 ^ 120) numbers.new }
 {
     for k in 0..TERMS {
-        numbers[k] = sum(numbers[k], low, row.coefficients[k], count);
+        numbers[k] = number_with_product(numbers[k], low, row.coefficients[k], count);
     }
 }
 
-// Returns `own + low entry`.
+// Returns a coefficient of the sum after a product is added: `own + low entry`.
 #[inline(always)]
-fn sum(own: i128, low: i64, entry: i64, count: usize) -> i128
+fn number_with_product(own: i128, low: i64, entry: i64, count: usize) -> i128
     requires few { count < 32 }
     requires own { unsigned_abs own ≤ count * 2 ^ 120 }
     requires low { unsigned_abs low ≤ 2 ^ 60 }
@@ -97,12 +102,12 @@ fn sum(own: i128, low: i64, entry: i64, count: usize) -> i128
     ensures equals { result ≡ own +ℤ low *ℤ entry }
     ensures small { unsigned_abs result ≤ (count + 1) * 2 ^ 120 }
 {
-    own + times(low, entry)
+    own + product(low, entry)
 }
 
-// Returns `low entry`, by one multiplication of 64-bit numbers.
+// Returns the exact product of two numbers, extended to 128 bits here so that one 64-bit multiplication is compiled.
 #[inline(always)]
-fn times(low: i64, entry: i64) -> i128
+fn product(low: i64, entry: i64) -> i128
     requires low { unsigned_abs low ≤ 2 ^ 60 }
     requires entry { unsigned_abs entry ≤ sum_limit }
     ensures equals { result ≡ low *ℤ entry }
@@ -111,9 +116,10 @@ fn times(low: i64, entry: i64) -> i128
     low as i128 * entry as i128
 }
 
-// Returns a bound of the sum's error after a coefficient times an entry is added.
+// Returns a bound of the sum's error after a product is added: what it was, the error of the entry times the coefficient,
+// and as much as the entry times 1, by which the coefficient may be above its lower end.
 #[inline(always)]
-fn sum_error(own: u128, low: i64, row: &RowModel, count: usize) -> u128
+fn error_with_product(own: u128, low: i64, row: &RowModel, count: usize) -> u128
     requires few { count < 32 }
     requires own { own ≤ count * 2 ^ 121 }
     requires low { unsigned_abs low ≤ 2 ^ 60 }

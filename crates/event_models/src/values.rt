@@ -7,9 +7,9 @@ ghost use Rattle.spec_bodies.specs.declared.quantity.Quantity.TheVariants.{Posit
 ghost use Rattle.spec_covers.specs.Combining.{IsUpto, ScalesTo, scaled_loss};
 ghost use Rattle.event_models.specs.Granules.{AreAxisSums, AreMade, IsAxisModel, IsGranuleOver, IsServed, IsValueOf, first_place};
 
-use crate::granules::axis_pairs;
+use crate::granules::axis_coefficients;
 use crate::row_room::RowRoom;
-use crate::sums::sum_of;
+use crate::sums::weighted_sum;
 use crate::times::ModelTimes;
 use body_states::Quantity;
 use eph_model::Granule;
@@ -22,8 +22,7 @@ const SUM_EXPONENT: i32 = -24 - 42;
 /// The exponent of 2 of the unit of a sum of coefficients times slopes, before it is divided.
 const SLOPE_EXPONENT: i32 = -24 - 50;
 
-/// Returns a model of the position or velocity along an axis of a granule, by a row that serves it. None is
-/// returned where the sum has no model, or the model passes its limits.
+/// Returns a model of a quantity along a granule's axis, by a row that serves it, or None if a number passes its limit.
 pub(crate) fn axis_model(
     quantity: Quantity,
     granule: &Granule,
@@ -39,12 +38,12 @@ pub(crate) fn axis_model(
 {
     let sum = sum_model(quantity, granule, axis, room, times)?;
     match quantity {
-        Quantity::Position => position_of(&sum),
-        Quantity::Velocity => velocity_of(&sum, granule.seconds),
+        Quantity::Position => position_model(&sum),
+        Quantity::Velocity => velocity_model(&sum, granule.seconds),
     }
 }
 
-// Returns a model of the sum of an axis's coefficients times the entries of a row, or none.
+// Returns a model of the sum of coefficients times a row's entries, or None if one is too wide or a limit is passed.
 fn sum_model(
     quantity: Quantity,
     granule: &Granule,
@@ -58,13 +57,13 @@ fn sum_model(
     requires served { IsServed granule.now room.now }
     ensures { AreAxisSums quantity times.now.first times.now.last granule.now axis result }
 {
-    let pairs = axis_pairs(granule, axis);
-    let wide = sum_of(pairs, &room.rows, place_of(quantity))?;
+    let pairs = axis_coefficients(granule, axis);
+    let wide = weighted_sum(pairs, &room.rows, first_place(quantity))?;
     settled(&wide.coefficients, wide.error, SUM_EXPONENT)
 }
 
-// Returns the place of the first coefficient that counts: 0 for positions, and 1 for velocities.
-fn place_of(quantity: Quantity) -> usize
+// Returns the place of the first coefficient that counts: 0 for positions, 1 for velocities, which lack the constant.
+fn first_place(quantity: Quantity) -> usize
     ensures equals { result ≡ first_place quantity }
     ensures few { result ≤ 1 }
 {
@@ -74,28 +73,27 @@ fn place_of(quantity: Quantity) -> usize
     }
 }
 
-// Returns a model of the position whose sum a model covers, or none where it passes its limits.
-fn position_of(sum: &Model) -> Option<Model>
+// Returns a position's model from its sum's, with 64 units for its rounding, or None if the error passes its limit.
+fn position_model(sum: &Model) -> Option<Model>
     ensures { (s : Series) → IfSome result (IsValueOf Position s sum.now) }
 {
     let _error = sum.error();
     sum.widened(64)
 }
 
-// Returns a model of the velocity whose sum a model covers, for granules of some seconds. None is returned where it
-// passes its limits.
-fn velocity_of(sum: &Model, seconds: i64) -> Option<Model>
+// Returns a velocity's model from its sum's, times 2 / seconds of the granule, or None if it passes its limits.
+fn velocity_model(sum: &Model, seconds: i64) -> Option<Model>
     requires long { pos 1 ≤ℤ seconds }
     ensures { (s : Series) → IsSeries s → s.duration ≡ unsigned_abs seconds
         → IfSome result (IsValueOf Velocity s sum.now) }
 {
-    let product = scaled(sum, seconds)?;
+    let product = scaled_model(sum, seconds)?;
     let units = lost_units(sum, &product, seconds)?;
     product.widened(units)
 }
 
-// Returns a model of 2 / seconds times the numbers near a model, or none where it passes its limits.
-fn scaled(sum: &Model, seconds: i64) -> Option<Model>
+// Returns a model of the numbers near a model times 2 / seconds. None is returned if it passes its limits.
+fn scaled_model(sum: &Model, seconds: i64) -> Option<Model>
     requires long { pos 1 ≤ℤ seconds }
     ensures { IfSome result (ScalesTo (unsigned_abs seconds) sum.now) }
 {
@@ -103,26 +101,25 @@ fn scaled(sum: &Model, seconds: i64) -> Option<Model>
     sum.product(&factor)
 }
 
-// Returns the most units that a velocity loses where it is rounded. None is returned where exponents are too far
-// apart.
+// Returns the most that a velocity's rounding changes, in units of `product`, or None if exponents are too far apart.
 fn lost_units(sum: &Model, product: &Model, seconds: i64) -> Option<u64>
     requires long { pos 1 ≤ℤ seconds }
     ensures { IfSome result (λ units. IsUpto units product.now
         (scaled_loss (sum_exponent u_unit) sum.now (unsigned_abs seconds))) }
 {
-    let coarser = greater(product.exponent(), SLOPE_EXPONENT);
-    let raised = gap(coarser, sum.exponent());
-    let lowered = gap(product.exponent(), coarser);
+    let coarser = greater_exponent(product.exponent(), SLOPE_EXPONENT);
+    let raised = exponent_gap(coarser, sum.exponent());
+    let lowered = exponent_gap(product.exponent(), coarser);
     let _error = sum.error();
     if raised <= 41 && lowered <= 14 {
-        Some(units_of(raised, lowered, seconds))
+        Some(velocity_loss(raised, lowered, seconds))
     } else {
         None
     }
 }
 
-// Returns the greater of two exponents.
-fn greater(a: i32, b: i32) -> i32
+// Returns the greater of two exponents of 2.
+fn greater_exponent(a: i32, b: i32) -> i32
     requires a { unsigned_abs a ≤ 2 ^ 20 }
     requires b { unsigned_abs b ≤ 2 ^ 20 }
     ensures first { a ≤ℤ result }
@@ -132,8 +129,8 @@ fn greater(a: i32, b: i32) -> i32
     if a < b { b } else { a }
 }
 
-// Returns by how much the exponent `to` is above `from`, and 0 where it is not.
-fn gap(from: i32, to: i32) -> u32
+// Returns by how much the exponent `to` is above `from`, and 0 if it is below.
+fn exponent_gap(from: i32, to: i32) -> u32
     requires from { unsigned_abs from ≤ 2 ^ 20 }
     requires to { unsigned_abs to ≤ 2 ^ 20 }
     ensures upto { to ≤ℤ (from +ℤ pos result) }
@@ -142,18 +139,19 @@ fn gap(from: i32, to: i32) -> u32
     if from < to { (to - from) as u32 } else { 0 }
 }
 
-// Returns `(floor(2^(7 + raised) / seconds) + 3) 2^lowered`.
-fn units_of(raised: u32, lowered: u32, seconds: i64) -> u64
+// Returns the most that a velocity's rounding changes, `(floor(2^(7 + raised) / seconds) + 3) 2^lowered` units of the
+// product, which are `lowered` bits finer than the enclosure's, if the sum loses `raised` bits.
+fn velocity_loss(raised: u32, lowered: u32, seconds: i64) -> u64
     requires raised { raised ≤ 41 }
     requires lowered { lowered ≤ 14 }
     requires long { pos 1 ≤ℤ seconds }
     ensures { result ≡ (128 * 2 ^ raised / unsigned_abs seconds + 3) * 2 ^ lowered }
 {
-    lifted(parts(lifted(128, raised), seconds) + 3, lowered)
+    power_multiple(quotient(power_multiple(128, raised), seconds) + 3, lowered)
 }
 
-// Returns `z 2^k`.
-fn lifted(z: u64, k: u32) -> u64
+// Returns `z` times 2 to the power of `k`, which is below 2^64.
+fn power_multiple(z: u64, k: u32) -> u64
     requires few { k ≤ 41 }
     requires small { z * 2 ^ k < 2 ^ 64 }
     ensures { result ≡ z * 2 ^ k }
@@ -161,8 +159,8 @@ fn lifted(z: u64, k: u32) -> u64
     z << k
 }
 
-// Returns `floor(z / seconds)`.
-fn parts(z: u64, seconds: i64) -> u64
+// Returns `z / seconds`, rounded down.
+fn quotient(z: u64, seconds: i64) -> u64
     requires long { pos 1 ≤ℤ seconds }
     ensures equals { result ≡ z / unsigned_abs seconds }
     ensures small { result ≤ z }

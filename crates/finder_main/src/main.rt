@@ -10,10 +10,10 @@ use std::io::ErrorKind;
 use std::process::ExitCode;
 use std::rt::Stderr;
 
-/// Returns the words of the command line, without the program's name. A word that is not UTF-8 is in no request: the
-/// list is then that of a command without its files, which the call refuses as it would refuse a word that no command
-/// has. The only error is out of memory.
-fn words(rt: &HostRuntime) -> Result<Vec<String>, AllocError> {
+/// Returns the words of the command line, without the program's name. If a word is not UTF-8, it returns `check` alone
+/// in their place: that is refused as an invalid command line too, since no file is named. The only error is out of
+/// memory.
+fn words_of_command_line(rt: &HostRuntime) -> Result<Vec<String>, AllocError> {
     let mut words = Vec::new(rt.alloc());
     match env::args(rt) {
         Ok(args) => {
@@ -27,7 +27,8 @@ fn words(rt: &HostRuntime) -> Result<Vec<String>, AllocError> {
     Ok(words)
 }
 
-/// Reports that there is no memory for the words, and returns the status of that.
+/// Writes the line of out of memory to standard error, when there is none for the words of the command line, and
+/// returns the exit status for it.
 fn report_out_of_memory(err: &mut StdSink<Stderr>) -> u8 {
     let _ = err.write(b"finder: out of memory\n");
     OUT_OF_MEMORY
@@ -38,7 +39,7 @@ fn main(rt: HostRuntime) -> ExitCode {
     let mut shelf = FileShelf::new(&rt);
     let mut out = StdSink::out(&rt);
     let mut err = StdSink::err(&rt);
-    let status = match words(&rt) {
+    let status = match words_of_command_line(&rt) {
         Ok(words) => finder(
             &rt,
             rt.alloc(),

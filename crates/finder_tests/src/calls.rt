@@ -1,5 +1,5 @@
 // The program's call, with words and a shelf, and what it returned.
-use crate::inputs::words_of;
+use crate::inputs::words_of_line;
 use gf_edges::{Gate, MemorySink, Shelf};
 use gf_find::finder;
 use std::alloc::{AllocError, Global};
@@ -20,13 +20,15 @@ pub(crate) struct Answer {
     pub(crate) err: MemorySink,
 }
 
-// Makes an output with this room, in bytes.
-fn output(alloc: Global, room: usize) -> Result<MemorySink, AllocError> {
+// Makes an output in memory that takes at most `room` bytes, and at most `PIECE` of them at once. The only error is out
+// of memory.
+fn memory_output(alloc: Global, room: usize) -> Result<MemorySink, AllocError> {
     MemorySink::new(alloc, room, PIECE, Vec::new(alloc))
 }
 
-// Calls the program with these words and returns its answer.
-fn answer_to<R: Threads + Wait + Sync, S: Shelf, G: Gate>(
+// Calls the program with these words, an output of `room` bytes and one for errors. Returns its status and what it
+// wrote. The only error is out of memory.
+fn answer_to_words<R: Threads + Wait + Sync, S: Shelf, G: Gate>(
     rt: &R,
     alloc: Global,
     words: &[String],
@@ -34,14 +36,15 @@ fn answer_to<R: Threads + Wait + Sync, S: Shelf, G: Gate>(
     room: usize,
     gate: &G,
 ) -> Result<Answer, AllocError> {
-    let mut out = output(alloc, room)?;
-    let mut err = output(alloc, ERR_ROOM)?;
+    let mut out = memory_output(alloc, room)?;
+    let mut err = memory_output(alloc, ERR_ROOM)?;
     let status = finder(rt, alloc, words, shelf, &mut out, &mut err, gate);
     Ok(Answer { status, out, err })
 }
 
-/// Calls the program with the words of this line, and an output of this room, and returns its answer.
-pub(crate) fn call<R: Threads + Wait + Sync, S: Shelf, G: Gate>(
+/// Calls the program with the words of a line, an output of `room` bytes and one for errors. Returns its status and
+/// what it wrote. The only error is out of memory.
+pub(crate) fn call_program<R: Threads + Wait + Sync, S: Shelf, G: Gate>(
     rt: &R,
     alloc: Global,
     line: &str,
@@ -49,6 +52,6 @@ pub(crate) fn call<R: Threads + Wait + Sync, S: Shelf, G: Gate>(
     room: usize,
     gate: &G,
 ) -> Result<Answer, AllocError> {
-    let words = words_of(alloc, line)?;
-    answer_to(rt, alloc, &words, shelf, room, gate)
+    let words = words_of_line(alloc, line)?;
+    answer_to_words(rt, alloc, &words, shelf, room, gate)
 }

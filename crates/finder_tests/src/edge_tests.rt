@@ -8,8 +8,9 @@ use std::test::Fail;
 // The name of a file in the folder that the test runs in.
 const NAME: &str = "finder_tests_bytes.tmp";
 
-// Returns 10,000 bytes: those of the whole numbers from 0 on.
-fn numbers(alloc: Global) -> Result<Vec<u8>, AllocError> {
+// Returns 10,000 bytes: those of the whole numbers from 0 to 2,499, four each, with the lowest byte first. The only
+// error is out of memory.
+fn bytes_of_numbers(alloc: Global) -> Result<Vec<u8>, AllocError> {
     let mut text = Vec::new(alloc);
     for number in 0..2_500u32 {
         text.extend_from_slice(&number.to_le_bytes())?;
@@ -17,8 +18,9 @@ fn numbers(alloc: Global) -> Result<Vec<u8>, AllocError> {
     Ok(text)
 }
 
-// Tells whether a sink takes each piece of a text whole, and nothing of no bytes.
-fn takes_whole<S: Sink>(sink: &mut S, text: &[u8]) -> Result<bool, Failed> {
+// Tells whether a sink takes each piece of 1,000 bytes of a text whole, and then nothing of an empty piece. The error
+// is that the sink fails.
+fn takes_whole_text<S: Sink>(sink: &mut S, text: &[u8]) -> Result<bool, Failed> {
     let mut is_taken = true;
     for piece in text.chunks(1_000) {
         is_taken = sink.write(piece)? == piece.len() && is_taken;
@@ -26,8 +28,9 @@ fn takes_whole<S: Sink>(sink: &mut S, text: &[u8]) -> Result<bool, Failed> {
     Ok(sink.write(b"")? == 0 && is_taken)
 }
 
-// Tells whether two reads give a text, and a third one nothing.
-fn gives_whole<S: Shelf>(shelf: &mut S, text: &[u8]) -> Result<bool, Failed>
+// Tells whether two reads of the open file of a shelf give a text, the first at most 1,000 bytes of it, and a third one
+// gives nothing. The error is that the shelf fails.
+fn gives_whole_text<S: Shelf>(shelf: &mut S, text: &[u8]) -> Result<bool, Failed>
     requires { S.ready shelf.old }
 {
     let mut front = [0u8; 1_000];
@@ -39,21 +42,21 @@ fn gives_whole<S: Shelf>(shelf: &mut S, text: &[u8]) -> Result<bool, Failed>
     Ok(shelf.read(&mut front)? == 0 && is_given)
 }
 
-// Shows that every byte that a stream takes is read back of its file.
+// Shows that every byte that a stream of the system takes is read back from its file.
 #[test]
 fn every_byte_that_a_stream_takes_is_read_of_its_file(rt: HostRuntime) -> Result<(), Fail> {
-    let text = numbers(rt.alloc())?;
+    let text = bytes_of_numbers(rt.alloc())?;
     let mut sink = StdSink::new(fs::create(&rt, NAME)?);
-    assert!(rt; takes_whole(&mut sink, &text)?);
+    assert!(rt; takes_whole_text(&mut sink, &text)?);
     let mut shelf = FileShelf::new(&rt);
     shelf.open(NAME)?;
-    assert!(rt; gives_whole(&mut shelf, &text)?);
+    assert!(rt; gives_whole_text(&mut shelf, &text)?);
     fs::remove_file(&rt, NAME)?;
     assert!(rt; shelf.open(NAME).is_err());
     Ok(())
 }
 
-// Shows that the standard streams and the open gate answer.
+// Shows that the standard streams take an empty piece, and that the open gate lets a worker pass.
 #[test]
 fn outer_streams_and_gates_answer(rt: HostRuntime) -> Result<(), Fail> {
     assert!(rt; StdSink::out(&rt).write(b"")? == 0);

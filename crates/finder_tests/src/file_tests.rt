@@ -1,5 +1,5 @@
 // Tests of the reading of files: which are opened, and how much is read of one.
-use crate::inputs::{BLOCK, HEADER, NotingShelf, words_of};
+use crate::inputs::{BLOCK, HEADER, NotingShelf, words_of_line};
 use gf_edges::{Failed, Shelf};
 use gf_files::{FilesError, read_files};
 use spec_faults::FILE_TOO_LARGE;
@@ -24,12 +24,12 @@ impl Shelf for EndlessShelf {
 
     ghost faults = { λ _. 0 };
 
-    // Opens the file, by any name.
+    // Opens the endless file, whatever its name.
     fn open(&mut self, _name: &str) -> Result<(), Failed> {
         Ok(())
     }
 
-    // Fills the whole buffer, and counts its bytes.
+    // Fills the whole buffer, as a file without an end does, and counts its bytes.
     fn read(&mut self, buf: &mut [u8]) -> Result<usize, Failed> {
         self.given = self.given.saturating_add(buf.len());
         Ok(buf.len())
@@ -45,7 +45,7 @@ struct Row {
     error: Option<FilesError>,
 }
 
-// The rows: where the reading stops, and which files were opened until then.
+// The rows: the fault at which the reading stops, if there is one, and which files were opened until then.
 const ROWS: [Row; 5] = [
     Row {
         texts: [HEADER, BLOCK, ""],
@@ -93,8 +93,9 @@ const ROWS: [Row; 5] = [
     },
 ];
 
-// Tells whether the files of these names are read as one block, or are refused with this error.
-fn is_answered<S: Shelf>(
+// Tells whether the files of these names are read as an ephemeris of one block, if `error` is none, or else are refused
+// with this error.
+fn has_outcome<S: Shelf>(
     alloc: Global,
     shelf: &mut S,
     names: &[String],
@@ -109,27 +110,28 @@ fn is_answered<S: Shelf>(
     }
 }
 
-// Tells whether the files of a row are answered as it says, and only those that it names are opened.
-fn agrees(alloc: Global, row: &Row) -> Result<bool, AllocError> {
-    let names = words_of(alloc, "a b c")?;
+// Tells whether the files of a row are read or refused as the row says, and only those that it names are opened. The
+// only error is out of memory.
+fn has_outcome_of_row(alloc: Global, row: &Row) -> Result<bool, AllocError> {
+    let names = words_of_line(alloc, "a b c")?;
     let mut shelf = NotingShelf::new(alloc, row.texts, row.failing)?;
-    let is_answered = is_answered(alloc, &mut shelf, &names, row.error);
-    Ok(is_answered && shelf.opened() == row.opened.as_bytes())
+    let is_answered = has_outcome(alloc, &mut shelf, &names, row.error);
+    Ok(is_answered && shelf.opened_names() == row.opened.as_bytes())
 }
 
-// Shows that no file is opened after the first that fails.
+// Shows that no file is opened after the first one that cannot be read or has a fault, as the rows of `ROWS` say.
 #[test]
 fn no_file_is_opened_after_the_first_that_fails(rt: HostRuntime) -> Result<(), Fail> {
     for (number, row) in ROWS.iter().enumerate() {
-        assert!(rt; agrees(rt.alloc(), row)?, "row {number}");
+        assert!(rt; has_outcome_of_row(rt.alloc(), row)?, "row {number}");
     }
     Ok(())
 }
 
-// Shows that the reading of a file stops one byte past the limit.
+// Shows that the reading of a file without an end stops one byte past the limit of 268,435,456 bytes.
 #[test]
 fn one_byte_past_the_limit_is_read_of_a_file(rt: HostRuntime) -> Result<(), Fail> {
-    let names = words_of(rt.alloc(), "a")?;
+    let names = words_of_line(rt.alloc(), "a")?;
     let mut shelf = EndlessShelf { given: 0 };
     let fault = Fault {
         line: 0,
@@ -137,7 +139,7 @@ fn one_byte_past_the_limit_is_read_of_a_file(rt: HostRuntime) -> Result<(), Fail
         detail: 0,
     };
     let error = Some(FilesError::Fault { file: 0, fault });
-    assert!(rt; is_answered(rt.alloc(), &mut shelf, &names, error));
+    assert!(rt; has_outcome(rt.alloc(), &mut shelf, &names, error));
     assert_eq!(rt; shelf.given, 268_435_457);
     Ok(())
 }

@@ -34,8 +34,8 @@ pub(crate) const BLOCK: &str = "1 26
 0.0 0.0 0.0
 ";
 
-/// Splits a line into its words.
-pub(crate) fn words_of(alloc: Global, line: &str) -> Result<Vec<String>, AllocError> {
+/// Splits a line at its blanks into words. The only error is out of memory.
+pub(crate) fn words_of_line(alloc: Global, line: &str) -> Result<Vec<String>, AllocError> {
     let mut words = Vec::new(alloc);
     for word in line.split_ascii_whitespace() {
         words.push(String::from_str(alloc, word)?)?;
@@ -50,24 +50,24 @@ pub(crate) struct NotingShelf {
     opened: Vec<u8>,
 }
 
-// Makes a file of a name and a text.
-fn file(alloc: Global, name: &str, text: &str) -> Result<(String, Vec<u8>), AllocError> {
+// Returns a file for a shelf in memory, as its name and its bytes. The only error is out of memory.
+fn memory_file(alloc: Global, name: &str, text: &str) -> Result<(String, Vec<u8>), AllocError> {
     let bytes = text.as_bytes().to_vec(alloc)?;
     Ok((String::from_str(alloc, name)?, bytes))
 }
 
-// Makes the files `a`, `b` and `c` of these texts.
+// Returns files for a shelf in memory: `a`, `b` and `c`, with these texts. The only error is out of memory.
 fn three_files(alloc: Global, texts: [&str; 3]) -> Result<Vec<(String, Vec<u8>)>, AllocError> {
     let mut files = Vec::new(alloc);
     for (name, text) in [("a", texts[0]), ("b", texts[1]), ("c", texts[2])] {
-        files.push(file(alloc, name, text)?)?;
+        files.push(memory_file(alloc, name, text)?)?;
     }
     Ok(files)
 }
 
 impl NotingShelf {
-    /// Makes a shelf of the files `a`, `b` and `c`, of these texts. The call whose number is given fails; where it is
-    /// 0, none does.
+    /// Makes a shelf of the files `a`, `b` and `c` with these texts. Of the calls of the shelf, the one with the number
+    /// `failing` fails, counted from 1; none does if it is 0. The only error is out of memory.
     pub(crate) fn new(alloc: Global, texts: [&str; 3], failing: u64) -> Result<Self, AllocError> {
         let failing = [failing].to_vec(alloc)?;
         let files = three_files(alloc, texts)?;
@@ -77,8 +77,8 @@ impl NotingShelf {
         })
     }
 
-    /// Returns the names that `open` was asked for, in the order of the calls, each before a blank.
-    pub(crate) fn opened(&self) -> &[u8] {
+    /// Returns the names that `open` was asked for, in the order of the calls, each with a blank after it.
+    pub(crate) fn opened_names(&self) -> &[u8] {
         self.opened.as_slice()
     }
 }
@@ -94,15 +94,15 @@ impl Shelf for NotingShelf {
 
     ghost faults = { λ s. s.files.faults };
 
-    // Notes the name, then opens the file. So a call that fails is noted too. Where memory runs out the note is cut
-    // short, and the test fails.
+    // Notes the name, then opens the file, so that a call that fails is noted too. If memory runs out, the note is cut
+    // short and the test fails.
     fn open(&mut self, name: &str) -> Result<(), Failed> {
         let _ = self.opened.extend_from_slice(name.as_bytes());
         let _ = self.opened.push(b' ');
         self.files.open(name)
     }
 
-    // Reads the open file.
+    // Reads the next bytes of the open file into the buffer, and returns how many.
     fn read(&mut self, buf: &mut [u8]) -> Result<usize, Failed> {
         self.files.read(buf)
     }

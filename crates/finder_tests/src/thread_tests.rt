@@ -1,5 +1,5 @@
 // Tests of threads: each command that searches does so on as many as its words ask for.
-use crate::calls::call;
+use crate::calls::call_program;
 use crate::inputs::{BLOCK, HEADER, NotingShelf};
 use gf_edges::Gate;
 use gf_find::REPORTED;
@@ -22,8 +22,8 @@ struct Meeting {
     given_up: AtomicU64,
 }
 
-// Waits until a count of passes reaches `least`. After `TURNS` looks it gives up, and notes so.
-fn wait_for(passes: &AtomicU64, least: u64, given_up: &AtomicU64) {
+// Waits until a count of passes reaches `least`. After `TURNS` looks at it this gives up, and sets `given_up` to 1.
+fn wait_for_passes(passes: &AtomicU64, least: u64, given_up: &AtomicU64) {
     for _ in 0..TURNS {
         if passes.load(Ordering::SeqCst) >= least {
             return;
@@ -33,28 +33,34 @@ fn wait_for(passes: &AtomicU64, least: u64, given_up: &AtomicU64) {
 }
 
 impl Gate for Meeting {
-    // Counts the pass of a worker, and holds it until another is there too.
+    // Counts the pass of a worker. It holds worker 0 at its second pass until another worker has come, and each other
+    // worker until worker 0 has come to its second pass.
     fn pass(&self, worker: u32) {
         if worker == 0 {
             if self.first.fetch_add(1, Ordering::SeqCst) == 1 {
-                wait_for(&self.others, 1, &self.given_up);
+                wait_for_passes(&self.others, 1, &self.given_up);
             }
         } else {
             self.others.fetch_add(1, Ordering::SeqCst);
-            wait_for(&self.first, 2, &self.given_up);
+            wait_for_passes(&self.first, 2, &self.given_up);
         }
     }
 }
 
-// Tells whether another worker came to the gate in the run of this line, and no worker waited in vain.
-fn is_met<R: Threads + Wait + Sync>(rt: &R, alloc: Global, line: &str) -> Result<bool, AllocError> {
+// Runs the program with the words of a line over two small files. Tells whether two workers met at the gate and none
+// waited in vain. The only error is out of memory.
+fn workers_have_met<R: Threads + Wait + Sync>(
+    rt: &R,
+    alloc: Global,
+    line: &str,
+) -> Result<bool, AllocError> {
     let gate = Meeting {
         first: AtomicU64::new(0),
         others: AtomicU64::new(0),
         given_up: AtomicU64::new(0),
     };
     let mut shelf = NotingShelf::new(alloc, [HEADER, BLOCK, ""], 0)?;
-    let answer = call(rt, alloc, line, &mut shelf, 4096, &gate)?;
+    let answer = call_program(rt, alloc, line, &mut shelf, 4096, &gate)?;
     let have_come = gate.others.load(Ordering::SeqCst) > 0;
     let have_met = gate.given_up.load(Ordering::SeqCst) == 0;
     Ok(answer.status == REPORTED && have_come && have_met)
@@ -70,11 +76,11 @@ const SEARCHES: [&str; 6] = [
     "gen 405 1 1 --workers 3",
 ];
 
-// Shows that two workers of each search are at work at the same time.
+// Shows that two workers of each command that searches are at work at the same time, for the words of `SEARCHES`.
 #[test]
 fn workers_of_each_search_meet(rt: HostRuntime) -> Result<(), Fail> {
     for line in &SEARCHES {
-        assert!(rt; is_met(&rt, rt.alloc(), line)?, "{line}");
+        assert!(rt; workers_have_met(&rt, rt.alloc(), line)?, "{line}");
     }
     Ok(())
 }

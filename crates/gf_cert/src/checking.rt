@@ -13,7 +13,7 @@ ghost use Rattle.gf_cert.specs.Answers.{Gives};
 ghost use Rattle.gf_cert.specs.Search.{cutting};
 
 use crate::errors::CertError;
-use crate::leaves::{read_leaves, refusal};
+use crate::leaves::{read_leaves, refusal_of_fault};
 use crate::lines::check_words;
 use de_text::Tokens;
 use event_judge::{EventJudge, Node};
@@ -21,10 +21,9 @@ use spec_faults::{CERT_LINE, CERT_REQUEST};
 use spec_trees::Leaf;
 use std::alloc::Global;
 
-/// Returns the leaves of a text that is a certificate of a tree of the root, for the request of this line; or the
-/// first line that breaks a rule, with the number of the rule. Each leaf is judged, and no other node. Times are in
-/// units of the judge's ephemeris, seconds or ticks of TDB since J2000. The text has at most 268,435,456 bytes; the
-/// line has no line end.
+/// Checks that a text is a certificate of a judge's search, and returns the leaves that it names. `line` is the line of
+/// the request that it has to be of, and `root` the root of the tree. The error is the first line that breaks a rule,
+/// or out of memory. Each leaf is judged, and no other node; times are in the judge's ticks since J2000 in TDB.
 pub fn check_cert(
     alloc: Global,
     text: &[u8],
@@ -44,16 +43,18 @@ pub fn check_cert(
     ensures windows { IfOk result (λ found. AreWindows (events judge.now.search)
         (IsLeftUndecided judge.now.search found.items) root.a root.b (windows found.items)) }
 {
+    // A law, which does nothing at run time: the rules of the judge's search are sound, and they cut a valid node into
+    // valid parts.
     judge.nodes_may_be_cut();
     let mut lines = Tokens::new(text);
     match check_words(&mut lines, b"CERT 1", CERT_LINE) {
         Ok(()) => read_leaves_of_request(alloc, judge, root, line, &mut lines),
-        Err(fault) => Err(refusal(fault)),
+        Err(fault) => Err(refusal_of_fault(fault)),
     }
 }
 
-// Returns the leaves that the lines name which are left, of which the first has to be that of the request. The error
-// is the first line that breaks a rule, or out of memory.
+// Checks that the next line is that of the request, then reads the leaves that the lines after it name, over the root.
+// Returns these leaves. The error is the first line that breaks a rule, or out of memory.
 fn read_leaves_of_request(
     alloc: Global,
     judge: &EventJudge<'_>,
@@ -69,6 +70,6 @@ fn read_leaves_of_request(
 {
     match check_words(lines, line, CERT_REQUEST) {
         Ok(()) => read_leaves(alloc, judge, root, lines),
-        Err(fault) => Err(refusal(fault)),
+        Err(fault) => Err(refusal_of_fault(fault)),
     }
 }

@@ -22,7 +22,7 @@ impl From<CertFault> for CertError {
 
     ghost from_gives = { λ fault error. error ≡ refusal_of fault };
 
-    // Returns the refusal for a line that breaks a rule.
+    // Converts the fault of a line, which breaks a rule, to the error that refuses the text.
     fn from(fault: CertFault) -> Self {
         CertError::Refused {
             line: fault.line,
@@ -37,7 +37,7 @@ impl From<AllocError> for CertError {
 
     ghost from_gives = { λ _ error. error ≡ Memory };
 
-    // Returns out of memory.
+    // Converts a failed allocation to the error `Memory`.
     fn from(_: AllocError) -> Self {
         CertError::Memory
     }
@@ -49,7 +49,7 @@ impl<T: Drop> From<AllocFailed<T>> for CertError {
 
     ghost from_gives = { λ _ error. error ≡ Memory };
 
-    // Returns out of memory, and drops what found no room.
+    // Converts a failed allocation to the error `Memory`, and drops the value that found no room.
     fn from(_: AllocFailed<T>) -> Self {
         CertError::Memory
     }

@@ -12,8 +12,8 @@ ghost use Rattle.spec_certificates.specs.Texts.{certificate};
 ghost use Rattle.spec_certificates.specs.declared.limits.TheConstants.{MAX_CERT_LEAVES};
 ghost use Rattle.gf_cert.specs.Search.{cutting};
 
-/// The certificate of the leaves of a search, at most 4,194,304 of them down to a depth of at most 40, breaks no rule for
-/// its request's line, and has at most 268,435,456 bytes.
+/// States that the certificate of a search's own leaves is accepted for the line of its request, and has at most
+/// 268,435,456 bytes. This holds for searches of at most 4,194,304 leaves, down to a depth of at most 40.
 pub fn certificates_of_searches_are_accepted()
     ensures accepted { (s : Search) (root : Node) (request : List ℕ) → IsSearch s
         → s.depth ≤ MAX_DEPTH → IsValid (rules s) root → IsLine request

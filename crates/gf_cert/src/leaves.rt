@@ -17,8 +17,9 @@ use spec_faults::CERT_END;
 use spec_trees::Leaf;
 use std::alloc::Global;
 
-// Checks that no line is left after the one that ends the certificate, else a rule is broken.
-fn check_rest(lines: &mut Tokens<'_>) -> Result<(), CertFault>
+// Checks that no line with a word follows the end of a certificate. The fault is the first line that does, by the rule
+// of the end if it is a leaf or an end, else by that of lines of no known form.
+fn check_no_line_follows(lines: &mut Tokens<'_>) -> Result<(), CertFault>
     ensures { Ends (after_end lines.old.left) result }
 {
     match next_entry(lines)? {
@@ -27,15 +28,16 @@ fn check_rest(lines: &mut Tokens<'_>) -> Result<(), CertFault>
     }
 }
 
-// Tells whether a certificate may end here: no node waits, and the end counts as many leaves as there were.
-fn is_end(waiting: &[Node], leaves: usize, count: u32) -> bool
+// Tells whether a certificate may end after `leaves` leaves were read. No node may still wait for its leaves, and the
+// end has to state that number as its count.
+fn is_end_allowed(waiting: &[Node], leaves: usize, count: u32) -> bool
     ensures { result ≡ is_end (reverse waiting.now) leaves count }
 {
     waiting.is_empty() && leaves as u64 == u64::from(count)
 }
 
-/// Returns the refusal of a text for a line that breaks a rule.
-pub(crate) fn refusal(fault: CertFault) -> CertError
+/// Returns the error that refuses a text for a fault of one of its lines, which breaks a rule.
+pub(crate) fn refusal_of_fault(fault: CertFault) -> CertError
     ensures { result ≡ refusal_of fault }
 {
     CertError::Refused {
@@ -44,8 +46,8 @@ pub(crate) fn refusal(fault: CertFault) -> CertError
     }
 }
 
-/// Returns the leaves that the remaining lines name, one after the other over the root, up to the end of the text.
-/// The error is the first line that breaks a rule, or out of memory.
+/// Reads leaves from the remaining lines of a certificate up to its end, and returns them. They have to follow one
+/// another over the root. The error is the first line that breaks a rule, or out of memory.
 pub(crate) fn read_leaves(
     alloc: Global,
     judge: &EventJudge<'_>,
@@ -62,8 +64,8 @@ pub(crate) fn read_leaves(
     let mut found = Vec::new(alloc);
     loop {
         match next_entry(lines) {
-            Err(fault) => return Err(refusal(fault)),
-            Ok(None) => return Err(refusal(fault_at(lines.end_line(), CERT_END))),
+            Err(fault) => return Err(refusal_of_fault(fault)),
+            Ok(None) => return Err(refusal_of_fault(fault_at(lines.end_line(), CERT_END))),
             Ok(Some((line, Entry::Leaf(leaf)))) => {
                 match place_leaf(judge, &mut waiting, leaf, line) {
                     Ok(()) => {}
@@ -72,12 +74,12 @@ pub(crate) fn read_leaves(
                 found.push(leaf)?;
             }
             Ok(Some((line, Entry::End(count)))) => {
-                if !is_end(&waiting, found.len(), count) {
-                    return Err(refusal(fault_at(line, CERT_END)));
+                if !is_end_allowed(&waiting, found.len(), count) {
+                    return Err(refusal_of_fault(fault_at(line, CERT_END)));
                 }
-                match check_rest(lines) {
+                match check_no_line_follows(lines) {
                     Ok(()) => return Ok(found),
-                    Err(fault) => return Err(refusal(fault)),
+                    Err(fault) => return Err(refusal_of_fault(fault)),
                 }
             }
         }

@@ -1,11 +1,11 @@
 //! Certificates of searches: a text that names the leaves of a search's tree, each with its mark, so that the windows
 //! can be checked without searching again.
 //!
-//! Leaves come in, with the line of a request, and the text goes out (`certificate`). A text comes in, with the line of a
-//! request, the judge of a search and a root; out come the leaves that the text names, or the first line that breaks a
-//! rule (`check_cert`). Whoever made the text is not trusted: each leaf is judged again, and stands where cutting the
-//! nodes that wait leads. No other node is judged, and nothing here searches. What a certificate is, and which lines
-//! break its rules, is said in `spec_certificates`.
+//! Leaves come in, with the line of a request, and the text goes out (`certificate`). A text comes in, with the
+//! line of a request, the judge of a search and a root; out come the leaves that the text names, or the first line that
+//! breaks a rule (`check_cert`). Whoever made the text is not trusted: each leaf is judged again, and has to stand
+//! where cutting the nodes that wait leads. No other node is judged, and nothing here searches. What a certificate is,
+//! and which lines break its rules, is said in `spec_certificates`.
 #![tactic(auto)]
 
 mod checking;

@@ -7,24 +7,25 @@ ghost use Rattle.spec_certificates.specs.Checks.{with_words};
 ghost use Rattle.spec_certificates.specs.Entries.{are_same, end_in, entry_of, leaf_in};
 ghost use Rattle.gf_cert.specs.Steps.{Steps, next_entry, next_words, rest_of};
 
-use crate::words::{is_word, read_depth, read_leaf_count, read_mark, read_time};
+use crate::words::{is_same_text, read_depth, read_leaf_count, read_mark, read_time};
 use de_text::{Line, LineStep, Tokens, Words};
 use spec_certificates::{CertFault, Entry};
 use spec_faults::{CERT_END, CERT_LINE};
 use spec_trees::{Leaf, Node};
 
-/// Returns the fault of a line: its number, and the number of the rule that it breaks.
+/// Returns the fault that a line, counted from 1, breaks the rule of this number.
 pub(crate) fn fault_at(line: u32, number: u8) -> CertFault
     ensures { result ≡ record { line = line; number = number } }
 {
     CertFault { line, number }
 }
 
-// Reads a leaf from five words: `L`, its first time, its last time, its depth and its mark. None for other words.
+// Reads a leaf from five words of a line: `L`, its first time, its last time, its depth and its mark. Returns none if a
+// word has another form.
 fn read_leaf(word: &[u8], a: &[u8], b: &[u8], depth_word: &[u8], mark_word: &[u8]) -> Option<Entry>
     ensures { result ≡ leaf_in word.now a.now b.now depth_word.now mark_word.now }
 {
-    if !is_word(word, b"L") {
+    if !is_same_text(word, b"L") {
         return None;
     }
     let (Some(a), Some(b)) = (read_time(a), read_time(b)) else {
@@ -39,11 +40,12 @@ fn read_leaf(word: &[u8], a: &[u8], b: &[u8], depth_word: &[u8], mark_word: &[u8
     }))
 }
 
-// Reads the end from three words: `END leaves` and the number of leaves. None for other words.
+// Reads the end of a certificate from three words of a line: `END`, `leaves` and the number of leaves. Returns none if
+// a word has another form.
 fn read_end(word: &[u8], name: &[u8], count_word: &[u8]) -> Option<Entry>
     ensures { result ≡ end_in word.now name.now count_word.now }
 {
-    if is_word(word, b"END") && is_word(name, b"leaves") {
+    if is_same_text(word, b"END") && is_same_text(name, b"leaves") {
         match read_leaf_count(count_word) {
             Some(count) => Some(Entry::End(count)),
             None => None,
@@ -53,7 +55,8 @@ fn read_end(word: &[u8], name: &[u8], count_word: &[u8]) -> Option<Entry>
     }
 }
 
-// Reads the words of a line as a leaf, which has five, or as the end, which has three. None for other words.
+// Reads the words of a line as a leaf, which has five words, or as the end of a certificate, which has three. Returns
+// none for other words.
 fn read_entry(mut words: Words<'_>) -> Option<Entry>
     ensures { result ≡ entry_of words.entry }
 {
@@ -70,8 +73,8 @@ fn read_entry(mut words: Words<'_>) -> Option<Entry>
     }
 }
 
-/// Reads the next line with its number, or none where no line is left. A line that is neither a leaf nor the end
-/// breaks a rule.
+/// Reads the next line of a certificate, and returns its number and the leaf or the end that it states. Returns none if
+/// no line is left. A line of another form, or one that is too long, is a fault.
 pub(crate) fn next_entry(lines: &mut Tokens<'_>) -> Result<Option<(u32, Entry)>, CertFault>
     ensures entry { result ≡ next_entry lines.old.left }
     ensures left { OnOk result (lines.new.left ≡ rest_of lines.old.left) }
@@ -87,8 +90,8 @@ pub(crate) fn next_entry(lines: &mut Tokens<'_>) -> Result<Option<(u32, Entry)>,
     }
 }
 
-// Returns the words of the next line with its number, or none where no line is left. A line that is too long breaks a
-// rule.
+// Returns the number and the words of the next line of a certificate, or none if no line is left. A line that is too
+// long is a fault.
 fn next_words<'a>(lines: &mut Tokens<'a>) -> Result<Option<(u32, Words<'a>)>, CertFault>
     ensures words { result ≡ next_words lines.old.left }
     ensures left { OnOk result (lines.new.left ≡ rest_of lines.old.left) }
@@ -101,20 +104,20 @@ fn next_words<'a>(lines: &mut Tokens<'a>) -> Result<Option<(u32, Words<'a>)>, Ce
     }
 }
 
-// Tells whether no word is left.
-fn has_no_word(mut words: Words<'_>) -> bool
+// Tells whether no word of a line is left to be read.
+fn has_no_word_left(mut words: Words<'_>) -> bool
     ensures { result ≡ are_same [] words.entry }
 {
     words.next().is_none()
 }
 
 // Tells whether two lines have the same words in the same order. Blanks between words do not count.
-fn are_same(mut one: Words<'_>, mut other: Words<'_>) -> bool
+fn have_same_words(mut one: Words<'_>, mut other: Words<'_>) -> bool
     ensures { result ≡ are_same one.entry other.entry }
 {
     loop {
         let Some(word) = one.next() else {
-            return has_no_word(other);
+            return has_no_word_left(other);
         };
         let Some(wanted) = other.next() else {
             return false;
@@ -125,7 +128,8 @@ fn are_same(mut one: Words<'_>, mut other: Words<'_>) -> bool
     }
 }
 
-/// Checks that the next line has the same words as `wanted`, else `rule` is broken.
+/// Checks that the next line has the words of `wanted`. The fault is that it has others, by the rule of this number,
+/// that it is too long, or that no line is left.
 pub(crate) fn check_words(lines: &mut Tokens<'_>, wanted: &[u8], rule: u8) -> Result<(), CertFault>
     ensures steps { (further : List Numbered → Result (List Leaf) CertFault)
         → Steps (with_words (tokens wanted.now) rule lines.old.end_line further lines.old.left)
@@ -134,7 +138,7 @@ pub(crate) fn check_words(lines: &mut Tokens<'_>, wanted: &[u8], rule: u8) -> Re
 {
     match next_words(lines)? {
         Some((number, words)) => {
-            if are_same(words, Words::of(wanted)) {
+            if have_same_words(words, Words::of(wanted)) {
                 Ok(())
             } else {
                 Err(fault_at(number, rule))

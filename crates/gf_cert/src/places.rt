@@ -16,15 +16,15 @@ use event_judge::{EventJudge, Judge, Node};
 use spec_faults::{CERT_END, CERT_MARK, CERT_PLACE};
 use spec_trees::{Leaf, Mark, Turn};
 
-// Tells whether two nodes have the same times and the same depth.
-fn is_same(one: Node, other: Node) -> bool
+// Tells whether two nodes have the same first time, last time and depth.
+fn are_same_node(one: Node, other: Node) -> bool
     ensures { result ≡ is_same one other }
 {
     one.a == other.a && one.b == other.b && one.depth == other.depth
 }
 
-// Tells whether a mark is that of an event with this turn.
-fn is_turn(turn: Turn, mark: Mark) -> bool
+// Tells whether a mark is that of a leaf with exactly one event, which turns in the given direction: a rise or a fall.
+fn is_mark_of_turn(turn: Turn, mark: Mark) -> bool
     ensures { result ≡ is_mark (Some (Mark.One turn)) mark }
 {
     match mark {
@@ -35,21 +35,22 @@ fn is_turn(turn: Turn, mark: Mark) -> bool
     }
 }
 
-// Tells whether a node is a leaf and has this mark.
-fn is_mark(found: Option<Mark>, mark: Mark) -> bool
+// Tells whether the mark that a certificate gives a leaf is `found`, the mark that the verdict of its node gives. A
+// node whose verdict gives none is no leaf, so no mark is right.
+fn is_mark_of_leaf(found: Option<Mark>, mark: Mark) -> bool
     ensures { result ≡ is_mark found mark }
 {
     match found {
         None => false,
         Some(Mark::Clear) => matches!(mark, Mark::Clear),
-        Some(Mark::One(turn)) => is_turn(turn, mark),
+        Some(Mark::One(turn)) => is_mark_of_turn(turn, mark),
         Some(Mark::Undecided) => matches!(mark, Mark::Undecided),
     }
 }
 
-// Cuts the first node that waits, and its left part again, until it is `node`. The right parts are put on the stack,
-// on which the next node to wait is the last. The leaf of `node` stands in the line `line`, which breaks a rule where
-// cutting does not lead there. The other error is out of memory.
+// Cuts the node `first`, and its left part again, until that part is `node`. Right parts go onto the stack of waiting
+// nodes, whose last is the next one. If cutting does not lead to `node`, the error is that `line` breaks a rule; the
+// other error is out of memory.
 fn cut_down_to(
     judge: &EventJudge<'_>,
     waiting: &mut Vec<Node>,
@@ -66,9 +67,11 @@ fn cut_down_to(
     ensures valid { IfOk result (λ _. IsValid (rules judge.now.search) node) }
     ensures others { IfOk result (λ _. AreValid (rules judge.now.search) waiting.new.items) }
 {
+    // A law, which does nothing at run time: the rules of the judge's search are sound, and they cut a valid node into
+    // valid parts.
     judge.nodes_may_be_cut();
     let mut here = first;
-    while !is_same(here, node) {
+    while !are_same_node(here, node) {
         if !judge.may_be_cut(here) {
             return Err(fault_at(line, CERT_PLACE).into());
         }
@@ -79,9 +82,9 @@ fn cut_down_to(
     Ok(())
 }
 
-/// Places a leaf, which stands in the line `line`: the first node that waits is cut until it is the leaf's. The line
-/// breaks a rule where cutting does not lead there or the leaf's mark is not that of its verdict. The nodes that wait
-/// are a stack, on which the first is the last. The other error is out of memory.
+/// Checks that a leaf, which the line `line` states, comes next, and takes it from the stack of waiting nodes, whose
+/// last is the next one. That node is cut until it is the leaf's. The error is that no node waits, that cutting does
+/// not lead to the leaf, that its mark is not that of the verdict, or out of memory.
 pub(crate) fn place_leaf(
     judge: &EventJudge<'_>,
     waiting: &mut Vec<Node>,
@@ -97,7 +100,7 @@ pub(crate) fn place_leaf(
         return Err(fault_at(line, CERT_END).into());
     };
     cut_down_to(judge, waiting, first, leaf.node, line)?;
-    if is_mark(judge.judge(leaf.node).mark(), leaf.mark) {
+    if is_mark_of_leaf(judge.judge(leaf.node).mark(), leaf.mark) {
         Ok(())
     } else {
         Err(fault_at(line, CERT_MARK).into())

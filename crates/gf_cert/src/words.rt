@@ -11,14 +11,14 @@ ghost use Rattle.spec_certificates.specs.declared.limits.TheConstants.{MAX_COUNT
 use spec_certificates::{MAX_COUNT_DIGITS, MAX_DEPTH_DIGITS, MAX_TIME_DIGITS};
 use spec_trees::{Mark, Turn};
 
-/// Tells whether a word is this text.
-pub(crate) fn is_word(word: &[u8], text: &[u8]) -> bool
+/// Tells whether a word is the given text, byte for byte.
+pub(crate) fn is_same_text(word: &[u8], text: &[u8]) -> bool
     ensures { result ≡ bytes_eq word.now text.now }
 {
     word == text
 }
 
-// Tells whether all bytes are ASCII digits. No byte at all passes, so callers test the length too.
+// Tells whether all bytes of a word are ASCII digits. A word without bytes passes, so callers test the length too.
 fn are_digits(word: &[u8]) -> bool
     ensures { result ≡ list_all is_ascii_digit word.now }
 {
@@ -32,7 +32,8 @@ fn is_length_up_to(word: &[u8], most: usize) -> bool
     !word.is_empty() && word.len() <= most
 }
 
-// Returns the number that at most 15 digits write.
+// Returns the number that at most 15 decimal digits write. A byte below `0` counts as 0 and one above `9` as more than
+// 9, so callers test the bytes.
 fn digits_value(digits: &[u8]) -> u64
     requires { length digits.now ≤ 15 }
     ensures value { result ≡ value digits.now }
@@ -45,7 +46,7 @@ fn digits_value(digits: &[u8]) -> u64
     value
 }
 
-// Reads a number of 1 to `most` digits. None for any other word.
+// Reads a number of 1 to `most` decimal digits. Returns none for any other word.
 fn read_number(most: usize, word: &[u8]) -> Option<u64>
     requires { most ≤ 15 }
     ensures value { result ≡ count_of most word.now }
@@ -58,7 +59,7 @@ fn read_number(most: usize, word: &[u8]) -> Option<u64>
     }
 }
 
-/// Reads a depth of 1 or 2 digits. None for any other word.
+/// Reads the depth of a leaf, a number of 1 or 2 digits. Returns none for any other word.
 pub(crate) fn read_depth(word: &[u8]) -> Option<u32>
     ensures { result ≡ count_of MAX_DEPTH_DIGITS word.now }
 {
@@ -68,7 +69,7 @@ pub(crate) fn read_depth(word: &[u8]) -> Option<u32>
     }
 }
 
-/// Reads a number of leaves of 1 to 8 digits. None for any other word.
+/// Reads a number of leaves, of 1 to 8 digits. Returns none for any other word.
 pub(crate) fn read_leaf_count(word: &[u8]) -> Option<u32>
     ensures { result ≡ count_of MAX_COUNT_DIGITS word.now }
 {
@@ -78,7 +79,8 @@ pub(crate) fn read_leaf_count(word: &[u8]) -> Option<u32>
     }
 }
 
-/// Reads a time in units of TDB since J2000: 1 to 15 digits, with an optional minus sign. None for any other word.
+/// Reads a time of 1 to 15 digits, perhaps after a minus sign, in ticks since J2000 in TDB. Returns none for any other
+/// word.
 pub(crate) fn read_time(word: &[u8]) -> Option<i64>
     ensures { result ≡ time_of word.now }
 {
@@ -95,17 +97,18 @@ pub(crate) fn read_time(word: &[u8]) -> Option<i64>
     }
 }
 
-/// Reads a mark: `N` (no event), `R` (one rise), `F` (one fall) or `U` (undecided). None for any other word.
+/// Reads the mark of a leaf: `N` (no event), `R` (one rise), `F` (one fall) or `U` (undecided). Returns none for any
+/// other word.
 pub(crate) fn read_mark(word: &[u8]) -> Option<Mark>
     ensures { result ≡ mark_of_word word.now }
 {
-    if is_word(word, b"N") {
+    if is_same_text(word, b"N") {
         Some(Mark::Clear)
-    } else if is_word(word, b"R") {
+    } else if is_same_text(word, b"R") {
         Some(Mark::One(Turn::Rise))
-    } else if is_word(word, b"F") {
+    } else if is_same_text(word, b"F") {
         Some(Mark::One(Turn::Fall))
-    } else if is_word(word, b"U") {
+    } else if is_same_text(word, b"U") {
         Some(Mark::Undecided)
     } else {
         None

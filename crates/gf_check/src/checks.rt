@@ -19,8 +19,9 @@ use spec_trees::Leaf;
 use std::alloc::Global;
 use window_text::{request_line, verification};
 
-// Returns the refusal of a text that is no certificate, or out of memory.
-fn refusal_of(error: CertError) -> Refusal
+// Returns the refusal of a run for the error of a certificate: the first line that breaks a rule with that rule's
+// number, or out of memory.
+fn refusal_of_error(error: CertError) -> Refusal
     ensures { result ≡ of_cert error }
 {
     match error {
@@ -29,9 +30,9 @@ fn refusal_of(error: CertError) -> Refusal
     }
 }
 
-/// Returns the line of a request over a span, without its line end: the second line of its certificate. The only
-/// error is out of memory.
-pub fn line_over(alloc: Global, find: &FindAsk, span: Span) -> Result<Vec<u8>, Refusal>
+/// Returns the line of a search's request over a span, without its line end. It is the second line of a certificate of
+/// that search. The only error is out of memory.
+pub fn request_line_over(alloc: Global, find: &FindAsk, span: Span) -> Result<Vec<u8>, Refusal>
     requires tick { IsTick find.now.tick }
     requires from { IsTimeIn find.now.tick span.from }
     requires upto { IsTimeIn find.now.tick span.upto }
@@ -42,9 +43,14 @@ pub fn line_over(alloc: Global, find: &FindAsk, span: Span) -> Result<Vec<u8>, R
     Ok(line)
 }
 
-// Returns the report of a certificate's leaves, which follow one another over a span: their windows, and how many
-// leaves there are. The only error is out of memory.
-fn printed(alloc: Global, find: &FindAsk, span: Span, leaves: &[Leaf]) -> Result<Vec<u8>, Refusal>
+// Returns the report on the leaves of a certificate, which cover a span: the windows that they make, and their number.
+// Times are in the ticks of the search since J2000 in TDB. The only error is out of memory.
+fn report_of_leaves(
+    alloc: Global,
+    find: &FindAsk,
+    span: Span,
+    leaves: &[Leaf],
+) -> Result<Vec<u8>, Refusal>
     requires tick { IsTick find.now.tick }
     requires from { IsTimeIn find.now.tick span.from }
     requires upto { IsTimeIn find.now.tick span.upto }
@@ -60,12 +66,11 @@ fn printed(alloc: Global, find: &FindAsk, span: Span, leaves: &[Leaf]) -> Result
     Ok(text)
 }
 
-/// Returns the bytes that `verify` prints of a text, for the words of a search, their span and the judge of their
-/// query. They are the report of the certificate's windows, and how many leaves it has. The windows are those of the
-/// events that are asked for, whoever made the text. The error is `Certificate`, for the first line that breaks a
-/// rule, or `Memory`. Each leaf is judged, and no other node. Times are in the ticks of the search since J2000 in
-/// TDB; the text has at most 268,435,456 bytes.
-pub fn verify(
+/// Checks the text of a certificate for a search over a span, and returns what `verify` prints: the report of its
+/// windows, and its number of leaves. The windows are those of the events that are asked for, whoever made the text.
+/// Each leaf is judged, and no other node. Times are in the ticks of the search since J2000 in TDB. The error is
+/// `Certificate`, for the first line that breaks a rule, or `Memory`.
+pub fn verify_certificate(
     alloc: Global,
     find: &FindAsk,
     span: Span,
@@ -82,9 +87,9 @@ pub fn verify(
     ensures stopped { IfErr result (λ refusal. (refusal ≡ Refusal.Memory)
         ⊎ (verification_of find.now judge.now.search span text.now ≡ Err refusal)) }
 {
-    let line = line_over(alloc, find, span)?;
+    let line = request_line_over(alloc, find, span)?;
     match check_cert(alloc, text, &line, judge, root_of(span)) {
-        Ok(leaves) => printed(alloc, find, span, &leaves),
-        Err(error) => Err(refusal_of(error)),
+        Ok(leaves) => report_of_leaves(alloc, find, span, &leaves),
+        Err(error) => Err(refusal_of_error(error)),
     }
 }

@@ -8,6 +8,6 @@
 mod checks;
 mod laws;
 
-pub use checks::{line_over, verify};
+pub use checks::{request_line_over, verify_certificate};
 pub use gf_query::EventJudge;
 pub use laws::what_is_certified_is_verified;

@@ -15,7 +15,8 @@ pub(crate) struct Calls {
 }
 
 impl Calls {
-    /// Starts both counts at 0, with the numbers of the calls that will fail.
+    /// Makes the counts of calls and of faults of an object in memory, both 0, with the numbers of the calls that are
+    /// to fail, counted from 1.
     pub(crate) fn new(failing: Vec<u64>) -> Self
         ensures failing { result.failing ≡ failing }
         ensures made { result.made ≡ 0 }
@@ -28,8 +29,9 @@ impl Calls {
         }
     }
 
-    /// Counts a call. It fails where its number is listed, and then counts a fault too.
-    pub(crate) fn begin(&mut self) -> Result<(), Failed>
+    /// Counts a call, at its start. If the call's number is listed as failing, counts a fault too and fails; the caller
+    /// then passes the failure on. A count stays at 2^64 - 1 once it is there.
+    pub(crate) fn count_call(&mut self) -> Result<(), Failed>
         ensures fails { IsErr result ↔ IsToFail self.old.failing.items self.old.made }
         ensures made { self.new.made ≡ raised self.old.made }
         ensures faults { RisesWhere (IsErr result) self.old.faults self.new.faults }
@@ -37,14 +39,14 @@ impl Calls {
     {
         self.made = self.made.saturating_add(1);
         if self.failing.contains(&self.made) {
-            self.fault();
+            self.count_fault();
             return Err(Failed);
         }
         Ok(())
     }
 
-    /// Counts a fault. The count stays at its last value, 2^64 - 1.
-    pub(crate) fn fault(&mut self)
+    /// Counts a fault. Neither wraps: a count of 2^64 - 1 stays.
+    pub(crate) fn count_fault(&mut self)
         ensures faults { self.new.faults ≡ raised self.old.faults }
         ensures made { self.new.made ≡ self.old.made }
         ensures failing { self.new.failing ≡ self.old.failing }

@@ -3,8 +3,10 @@ ghost use Rattle.std.specs.Prelude.{◌≡◌, ◌≢◌, ◌^◌, ◌-◌, List
 ghost use Rattle.gf_edges.specs.Edges.{Files, Lacks, Opens, Rose, file_of, raised};
 ghost use Rattle.gf_edges.specs.States.{SinkState, given, taken};
 
-/// States that a file is found by its whole name, and that of two with one name the first counts.
-pub fn files_are_found_by_name()
+/// States that a file is found by its whole name, the empty one too, that of two files with one name the first counts,
+/// and that files with other names are skipped. Shown with lists of `a`, `b` and `ab`; then for all names. Unknown
+/// files lack none.
+pub fn files_are_found_by_their_whole_name()
     ensures first_of_two { file_of (codes "a")
         ((codes "b", 1 ∷ []) ∷ (codes "a", 2 ∷ []) ∷ (codes "a", 3 ∷ []) ∷ [])
         ≡ Some (2 ∷ []) }
@@ -19,8 +21,9 @@ pub fn files_are_found_by_name()
         → other ≢ name → file_of name ((other, bytes) ∷ rest) ≡ file_of name rest }
 {}
 
-/// States that a count rises by one, stays at its last value, and then counts as risen.
-pub fn counts_rise()
+/// States that a count of faults rises by one up to 2^64 - 1 and then stays there. From 4 to 5 it rose, from 4 to 4 it
+/// did not, and at 2^64 - 1 it counts as risen though it stayed.
+pub fn counts_of_faults_stay_at_their_last_value()
     ensures by_one { raised 4 ≡ 5 }
     ensures at_last { raised (2 ^ 64 - 1) ≡ 2 ^ 64 - 1 }
     ensures rose { Rose 4 5 }
@@ -28,8 +31,9 @@ pub fn counts_rise()
     ensures last_counts_as_risen { Rose (2 ^ 64 - 1) (2 ^ 64 - 1) }
 {}
 
-/// States that a read gives, and a write takes, as many bytes as the limits of its object let it.
-pub fn pieces_are_as_long_as_can_be()
+/// States how many bytes a read gives, as the least of what is left (3, 1 or 0), the buffer's length (4, 1 or 2) and
+/// the limit of one read (2). A write of 3 bytes to a sink with room for 5, which holds 3, takes 2.
+pub fn reads_and_writes_are_as_long_as_can_be()
     ensures by_piece { given (1 ∷ 2 ∷ 3 ∷ []) (0 ∷ 0 ∷ 0 ∷ 0 ∷ []) 2 ≡ 2 }
     ensures by_buffer { given (1 ∷ 2 ∷ 3 ∷ []) (0 ∷ []) 2 ≡ 1 }
     ensures by_end { given (1 ∷ []) (0 ∷ 0 ∷ []) 2 ≡ 1 }

@@ -14,7 +14,10 @@ mod memory_sink;
 mod system;
 
 pub use edges::{Failed, Gate, OpenGate, Shelf, Sink};
-pub use laws::{counts_rise, files_are_found_by_name, pieces_are_as_long_as_can_be};
+pub use laws::{
+    counts_of_faults_stay_at_their_last_value, files_are_found_by_their_whole_name,
+    reads_and_writes_are_as_long_as_can_be,
+};
 pub use memory_shelf::MemoryShelf;
 pub use memory_sink::{Memory, MemorySink};
 pub use system::{FileShelf, StdSink};

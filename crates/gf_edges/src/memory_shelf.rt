@@ -43,8 +43,9 @@ impl Model for MemoryShelf {
     ghost invariant = { λ s. 1 ≤ s.piece };
 }
 
-// Returns the index of the first file with this name, or none.
-fn index_of(files: &[(String, Vec<u8>)], name: &str) -> Option<usize>
+// Returns the index of the first file with this name, or `None` if no file has it. It is apart from `open` because its
+// loop needs an invariant.
+fn index_of_file(files: &[(String, Vec<u8>)], name: &str) -> Option<usize>
     ensures absent { IfNone result (file_of name.now (entries files.now) ≡ None) }
     ensures there { IfSome result (λ i.
         file_of name.now (entries files.now) ≡ Some (bytes_at files.now i)) }
@@ -57,8 +58,9 @@ fn index_of(files: &[(String, Vec<u8>)], name: &str) -> Option<usize>
     None
 }
 
-// Returns the bytes of the file at an index that are not yet read. Past the files or past the bytes there are none.
-fn rest_at(files: &[(String, Vec<u8>)], index: usize, at: usize) -> &[u8]
+// Returns the bytes from byte `at` on of the file at an index, or none if there is no such file or byte. The clause
+// `fits` lets the reader add what it read to `at` without overflow.
+fn unread_bytes(files: &[(String, Vec<u8>)], index: usize, at: usize) -> &[u8]
     ensures bytes { result.now ≡ drop at (bytes_at files.now index) }
     ensures fits { 0 < length result.now → at + length result.now < 2 ^ 64 }
 {
@@ -72,8 +74,8 @@ fn rest_at(files: &[(String, Vec<u8>)], index: usize, at: usize) -> &[u8]
 }
 
 impl MemoryShelf {
-    /// Makes a shelf of these files, by name, with no file open. Of two files with one name the first counts. A read
-    /// gives at most `piece` bytes. The calls whose numbers are in `failing` fail.
+    /// Makes a shelf of these files, each a name with its bytes, with no file open. Of two files with one name the
+    /// first counts. A read gives at most `piece` bytes. The calls whose numbers, from 1, are in `failing` fail.
     pub fn new(files: Vec<(String, Vec<u8>)>, piece: usize, failing: Vec<u64>) -> Self
         requires { 1 ≤ piece }
         ensures files { result.files ≡ entries files.items }
@@ -90,7 +92,7 @@ impl MemoryShelf {
         }
     }
 
-    /// Returns how often the shelf has failed.
+    /// Returns how many calls of this shelf have failed because their numbers were listed. It stays at 2^64 - 1.
     pub fn faults(&self) -> u64
         ensures { result ≡ self.now.faults }
     {
@@ -113,8 +115,8 @@ impl Shelf for MemoryShelf {
 
     ghost faults = { λ s. s.faults };
 
-    /// Opens a file. It fails exactly at a listed call, and where no file has this name. The count of faults rises
-    /// exactly at a listed call.
+    /// Opens the first file of this name. It fails exactly if the call's number is listed or no file has this name, and
+    /// then leaves no file open. The count of faults rises exactly at a listed call.
     fn open(&mut self, name: &str) -> Result<(), Failed>
         ensures ready { OnOk result (IsSome self.new.left) }
         ensures bytes { OnOk result (Opens (Some self.old.files) name.now self.new.left) }
@@ -133,8 +135,8 @@ impl Shelf for MemoryShelf {
         ensures failing { self.new.failing ≡ self.old.failing }
     {
         self.place = None;
-        self.calls.begin()?;
-        match index_of(&self.files, name) {
+        self.calls.count_call()?;
+        match index_of_file(&self.files, name) {
             Some(index) => {
                 self.place = Some(Place { index, at: 0 });
                 Ok(())
@@ -143,8 +145,8 @@ impl Shelf for MemoryShelf {
         }
     }
 
-    /// Reads as many bytes as are left, as the buffer holds and as a piece may have, whichever is least. It fails
-    /// exactly at a listed call, and the count of faults rises exactly there.
+    /// Reads as many bytes as are left, as the buffer holds and as one read may give, whichever is least, and returns
+    /// how many. It fails exactly at a listed call, and exactly there the count of faults rises; no byte is read then.
     fn read(&mut self, buf: &mut [u8]) -> Result<usize, Failed>
         requires { IsSome self.old.left }
         ensures ready { IsSome self.new.left }
@@ -162,11 +164,11 @@ impl Shelf for MemoryShelf {
         ensures piece { self.new.piece ≡ self.old.piece }
         ensures failing { self.new.failing ≡ self.old.failing }
     {
-        self.calls.begin()?;
+        self.calls.count_call()?;
         let Some(place) = self.place else {
             return Ok(0);
         };
-        let left = rest_at(&self.files, place.index, place.at);
+        let left = unread_bytes(&self.files, place.index, place.at);
         let count = left.len().min(buf.len()).min(self.piece);
         buf[..count].copy_from_slice(&left[..count]);
         self.place = Some(Place {

@@ -39,8 +39,8 @@ impl Model for MemorySink {
 
 impl MemorySink {
     /// Makes an empty sink that holds at most `room` bytes and takes at most `piece` of them in one write. The calls
-    /// whose numbers are in `failing` fail and take nothing. The room is allocated here; the only error is out of
-    /// memory.
+    /// whose numbers, from 1, are in `failing` fail and take nothing. The room is allocated here, and the only error is
+    /// out of memory.
     pub fn new(alloc: Global, room: usize, piece: usize, failing: Vec<u64>) -> Result<Self, Memory>
         requires { 1 ≤ piece }
         ensures empty { IfOk result (λ s. s.bytes ≡ []) }
@@ -56,14 +56,15 @@ impl MemorySink {
         })
     }
 
-    /// Returns all bytes that were taken, in their order.
+    /// Returns all bytes that this sink has taken, in the order in which they came.
     pub fn bytes(&self) -> &[u8]
         ensures { result.now ≡ self.now.bytes }
     {
         &self.taken
     }
 
-    /// Returns how often the sink has failed.
+    /// Returns how many faults this sink has counted: calls that failed because their numbers were listed, and writes
+    /// of some bytes to a full sink. It stays at 2^64 - 1.
     pub fn faults(&self) -> u64
         ensures { result ≡ self.now.faults }
     {
@@ -82,8 +83,9 @@ impl Sink for MemorySink {
 
     ghost faults = { λ s. s.faults };
 
-    /// Takes as many bytes as the piece has, as one write may take and as there is room for, whichever is least. The
-    /// count of faults rises exactly at a call that fails, and where bytes are offered to a full sink.
+    /// Takes as many bytes as the piece has, as one write may take and as there is room for, whichever is least, and
+    /// returns how many. It fails exactly at a listed call. The count of faults rises there, and if bytes are offered
+    /// to a full sink.
     fn write(&mut self, piece: &[u8]) -> Result<usize, Failed>
         ensures bound { WritesAtMost result piece.now }
         ensures bytes { WriteAppends (Some self.old.bytes) (Some self.new.bytes) result piece.now }
@@ -100,14 +102,14 @@ impl Sink for MemorySink {
         ensures limits { (self.new.room ≡ self.old.room) × (self.new.piece ≡ self.old.piece) }
         ensures failing { self.new.failing ≡ self.old.failing }
     {
-        self.calls.begin()?;
+        self.calls.count_call()?;
         let count = piece
             .len()
             .min(self.piece)
             .min(self.room - self.taken.len());
         self.taken.extend_from_slice(&piece[..count]).unwrap();
         if count == 0 && !piece.is_empty() {
-            self.calls.fault();
+            self.calls.count_fault();
         }
         Ok(count)
     }

@@ -32,7 +32,7 @@ impl<'a, R: Files> Model for FileShelf<'a, R> {
 }
 
 impl<'a, R: Files> FileShelf<'a, R> {
-    /// Makes a shelf of the files that this runtime reaches, with no file open.
+    /// Makes a shelf of the files that this runtime reaches, by their paths, with no file open and no fault counted.
     pub fn new(files: &'a R) -> Self
         ensures closed { result.is_open ≡ false }
         ensures at_start { result.faults ≡ 0 }
@@ -60,7 +60,8 @@ impl<'a, R: Files> Shelf for FileShelf<'a, R> {
 
     ghost faults = { λ s. s.faults };
 
-    // Opens the file at this path. The count of faults rises exactly where it fails.
+    // Opens the file at this path of the system before its first byte, and closes the one that was open. The count of
+    // faults rises exactly if this fails, and no file is open then.
     fn open(&mut self, name: &str) -> Result<(), Failed>
         ensures ready { OnOk result (IsTrue self.new.is_open) }
         ensures bytes { OnOk result (Opens None name.now self.new.left) }
@@ -83,7 +84,8 @@ impl<'a, R: Files> Shelf for FileShelf<'a, R> {
         }
     }
 
-    // Reads the next bytes of the open file. The count of faults rises exactly where it fails.
+    // Reads the next bytes of the open file into the front of the buffer, and returns how many. The count of faults
+    // rises exactly if this fails; the file stays open then.
     fn read(&mut self, buf: &mut [u8]) -> Result<usize, Failed>
         requires { IsTrue self.old.is_open }
         ensures ready { IsTrue self.new.is_open }
@@ -125,7 +127,7 @@ impl<W: Write + Drop> Model for StdSink<W> {
 }
 
 impl StdSink<Stdout> {
-    /// Returns a sink that writes to standard output.
+    /// Makes a sink that writes to standard output, with no fault counted.
     pub fn out(rt: &HostRuntime) -> Self
         ensures at_start { result.faults ≡ 0 }
     {
@@ -134,7 +136,7 @@ impl StdSink<Stdout> {
 }
 
 impl StdSink<Stderr> {
-    /// Returns a sink that writes to standard error.
+    /// Makes a sink that writes to standard error, with no fault counted.
     pub fn err(rt: &HostRuntime) -> Self
         ensures at_start { result.faults ≡ 0 }
     {
@@ -143,7 +145,7 @@ impl StdSink<Stderr> {
 }
 
 impl<W: Write + Drop> StdSink<W> {
-    /// Makes a sink of a stream. What the stream holds already stays.
+    /// Makes a sink that appends to a stream, with no fault counted. The bytes that the stream holds already stay.
     pub fn new(stream: W) -> Self
         ensures bytes { result.bytes ≡ W.contents stream }
         ensures at_start { result.faults ≡ 0 }
@@ -163,7 +165,8 @@ impl<W: Write + Drop> Sink for StdSink<W> {
 
     ghost faults = { λ s. s.faults };
 
-    // Writes bytes to the stream. The count of faults rises exactly where it fails, or takes none of some bytes.
+    // Writes bytes from the front of the piece to the stream, and returns how many it took. The count of faults rises
+    // exactly if this fails, or takes none of a piece that has some.
     fn write(&mut self, piece: &[u8]) -> Result<usize, Failed>
         ensures bound { WritesAtMost result piece.now }
         ensures bytes { WriteAppends self.old.bytes self.new.bytes result piece.now }

@@ -27,13 +27,15 @@ impl From<AllocError> for FilesError {
 
     ghost from_gives = { λ _ e. e ≡ Memory };
 
+    // Converts the error of a call that is out of memory, so that `?` can return it.
     fn from(_: AllocError) -> Self {
         FilesError::Memory
     }
 }
 
-/// The error of the lines of the file of this number.
-pub(crate) fn in_file(file: usize, error: ReadError) -> FilesError
+/// Returns the error of a reader of lines as the error of the file of this number, counted from 0. Out of memory
+/// belongs to no file.
+pub(crate) fn error_in_file(file: usize, error: ReadError) -> FilesError
     ensures { result ≡ in_file file error }
 {
     match error {

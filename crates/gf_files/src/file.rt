@@ -24,7 +24,8 @@ const TOO_LARGE: Fault = Fault {
     detail: 0,
 };
 
-// Reads the next bytes of the open file to this place of the bytes, and returns how many.
+// Reads the next bytes of the open file into these bytes, from the place `at` on, and returns how many. It is 0 only
+// if the file ends there.
 fn read_at<S: Shelf>(shelf: &mut S, bytes: &mut [u8], at: usize) -> Result<usize, Failed>
     requires ready { S.ready shelf.old }
     requires room { at < length bytes.old }
@@ -42,9 +43,15 @@ fn read_at<S: Shelf>(shelf: &mut S, bytes: &mut [u8], at: usize) -> Result<usize
     shelf.read(&mut bytes[at..])
 }
 
-// Reads the next bytes of the open file, the one of this number, after those of the text, and returns how many.
+// Reads the next bytes of the open file to the end of the text, and returns how many: at most 65,536, and 0 only if
+// the file ends there. Errors: `NotRead` with the number of the file, counted from 0, if the shelf fails; or out of
+// memory.
 #[tactic(auto, using(crate::proofs::Left::kept))]
-fn read_more<S: Shelf>(shelf: &mut S, file: usize, text: &mut Vec<u8>) -> Result<usize, FilesError>
+fn append_next_bytes<S: Shelf>(
+    shelf: &mut S,
+    file: usize,
+    text: &mut Vec<u8>,
+) -> Result<usize, FilesError>
     requires ready { S.ready shelf.old }
     requires small { length text.old.items ≤ MAX_TEXT_BYTES }
     ensures ready { S.ready shelf.new }
@@ -72,8 +79,9 @@ fn read_more<S: Shelf>(shelf: &mut S, file: usize, text: &mut Vec<u8>) -> Result
     }
 }
 
-// The bytes that are left of the open file, the one of this number. Of a longer rest than a file may have, one byte
-// more is read.
+// Returns the bytes that are left of the open file, whose number, counted from 0, is for the errors. Errors: the
+// fault `FILE_TOO_LARGE` for more than 268,435,456 bytes, of which one byte more is read; `NotRead` if the shelf
+// fails; or out of memory.
 fn read_rest<S: Shelf>(alloc: Global, shelf: &mut S, file: usize) -> Result<Vec<u8>, FilesError>
     requires { S.ready shelf.old }
     ensures whole { IfOk result (λ text. IfSome (S.left shelf.old) (λ left. left ≡ text.items)) }
@@ -91,7 +99,7 @@ fn read_rest<S: Shelf>(alloc: Global, shelf: &mut S, file: usize) -> Result<Vec<
 {
     let mut text: Vec<u8> = Vec::new(alloc);
     while text.len() <= MAX_TEXT_BYTES {
-        let count = read_more(shelf, file, &mut text)?;
+        let count = append_next_bytes(shelf, file, &mut text)?;
         if count == 0 {
             return Ok(text);
         }
@@ -102,9 +110,9 @@ fn read_rest<S: Shelf>(alloc: Global, shelf: &mut S, file: usize) -> Result<Vec<
     })
 }
 
-/// The bytes of the file of this number and name. One that is too large has the fault `FILE_TOO_LARGE`, which is found
-/// once one byte past the limit was read. `NotRead` where the file is missing or the shelf fails; `Memory` where it is
-/// out of memory, and never for a missing file.
+/// Returns the bytes of the file of this name. Its number, counted from 0, is for the errors. A file that is too
+/// large has the fault `FILE_TOO_LARGE`, which is found once one byte past the limit was read. `NotRead` if the file
+/// is missing or the shelf fails; `Memory` if memory is out, and never for a missing file.
 pub fn read_file<S: Shelf>(
     alloc: Global,
     shelf: &mut S,

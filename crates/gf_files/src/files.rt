@@ -8,9 +8,9 @@ ghost use Rattle.spec_files.specs.Texts.{fault_at};
 ghost use Rattle.gf_files.specs.Read.{HaveRead, LacksFirst, StopsAtFile, TakesFile};
 ghost use Rattle.gf_files.specs.Reader.{IsReady};
 
-use crate::errors::{FilesError, in_file};
+use crate::errors::{FilesError, error_in_file};
 use crate::file::read_file;
-use crate::reader::{Fed, Reader, end, feed, first_reader};
+use crate::reader::{Fed, Reader, end_reading, feed_text, first_reader};
 use eph_model::Ephemeris;
 use gf_edges::Shelf;
 use spec_faults::TOO_MANY_FILES;
@@ -26,8 +26,9 @@ pub struct Accepted {
     pub end_line: u32,
 }
 
-// The reader after the next file, the one of this number.
-fn take_file<S: Shelf>(
+// Reads the file of this number and name, and gives its lines to the reader. Returns the reader after them, with the
+// number of the file's lines plus 1. Errors: the first fault of its lines, `NotRead`, or out of memory.
+fn feed_file<S: Shelf>(
     alloc: Global,
     shelf: &mut S,
     reader: Reader,
@@ -47,14 +48,15 @@ fn take_file<S: Shelf>(
     ensures later { S.faults shelf.old ≤ S.faults shelf.new }
 {
     let text = read_file(alloc, shelf, file, name)?;
-    match feed(alloc, reader, &text) {
+    match feed_text(alloc, reader, &text) {
         Ok(fed) => Ok(fed),
-        Err(error) => Err(in_file(file, error)),
+        Err(error) => Err(error_in_file(file, error)),
     }
 }
 
-// The reader after all files of these names. No file is opened after one that has a fault or cannot be read.
-fn take_files<S: Shelf>(alloc: Global, shelf: &mut S, names: &[String]) -> Result<Fed, FilesError>
+// Reads all files of these names in order, and gives their lines to one reader. Returns the reader after the last. No
+// file is opened after one that has a fault or cannot be read, which is the error, with its number.
+fn feed_files<S: Shelf>(alloc: Global, shelf: &mut S, names: &[String]) -> Result<Fed, FilesError>
     requires { length names.now ≤ MAX_FILES }
     ensures fed { IfOk result (λ fed.
         HaveRead (S.files shelf.old) (map string_bytes names.now) fed.reader fed.end_line) }
@@ -73,19 +75,19 @@ fn take_files<S: Shelf>(alloc: Global, shelf: &mut S, names: &[String]) -> Resul
     let mut reader = first_reader();
     let mut end_line = 1;
     for file in 0..names.len() {
-        let fed = take_file(alloc, shelf, reader, file, &names[file])?;
+        let fed = feed_file(alloc, shelf, reader, file, &names[file])?;
         reader = fed.reader;
         end_line = fed.end_line;
     }
     Ok(Fed { reader, end_line })
 }
 
-/// The ephemeris of the files of these names, which the shelf opens one after the other. No file is opened after one
-/// that has a fault or cannot be read, and of none more than 268,435,457 bytes are read.
+/// Returns the ephemeris of the files of these names, which the shelf opens one after the other. No file is opened
+/// after one that has a fault or cannot be read, and of none more than 268,435,457 bytes are read.
 ///
 /// `Fault` is the first fault; more than `MAX_FILES` names are the fault `TOO_MANY_FILES` at file `MAX_FILES`, before
-/// any is opened. `NotRead` where a file is missing or the shelf fails; `Memory` where it is out of memory, and never
-/// for a first file that is missing.
+/// any is opened. `NotRead` if a file is missing or the shelf fails; `Memory` if memory is out, and never for a first
+/// file that is missing.
 pub fn read_files<S: Shelf>(
     alloc: Global,
     shelf: &mut S,
@@ -120,13 +122,13 @@ pub fn read_files<S: Shelf>(
             },
         });
     }
-    let fed = take_files(alloc, shelf, names)?;
+    let fed = feed_files(alloc, shelf, names)?;
     let end_line = fed.end_line;
-    match end(alloc, fed.reader, end_line) {
+    match end_reading(alloc, fed.reader, end_line) {
         Ok(ephemeris) => Ok(Accepted {
             ephemeris,
             end_line,
         }),
-        Err(error) => Err(in_file(names.len() - 1, error)),
+        Err(error) => Err(error_in_file(names.len() - 1, error)),
     }
 }

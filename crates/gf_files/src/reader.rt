@@ -32,7 +32,7 @@ pub(crate) struct Fed {
     pub end_line: u32,
 }
 
-/// A reader that waits for the first line of all.
+/// Returns a reader that waits for the first line of the first file.
 pub(crate) fn first_reader() -> Reader
     ensures ready { IsReady result }
     ensures first { (file : ℕ) (lines : List FileLine)
@@ -41,7 +41,8 @@ pub(crate) fn first_reader() -> Reader
     Reader::Header(HeaderReader::new())
 }
 
-// The reader of the blocks of a header that is whole.
+// Returns the reader of the blocks after a header that is whole. `line` is the line that ended the header, whose
+// number an error would name. Errors: out of memory.
 fn begin_blocks(alloc: Global, header: HeaderReader, line: &Line<'_>) -> Result<Reader, ReadError>
     requires whole { headers.IsWhole header }
     requires of_header { IsOfHeader header }
@@ -52,7 +53,9 @@ fn begin_blocks(alloc: Global, header: HeaderReader, line: &Line<'_>) -> Result<
     Ok(Reader::Blocks(BlockReader::new(alloc, header)))
 }
 
-// The reader after a line, while the header goes on.
+// Gives a line to the reader of the header. Returns that reader, or the reader of the blocks once the header is
+// whole. Errors: the first fault of the lines, or out of memory. The call is not inlined, since few lines are of the
+// header.
 #[inline(never)]
 fn take_header_line(
     alloc: Global,
@@ -62,24 +65,25 @@ fn take_header_line(
     requires { WantsMore reader }
     ensures { Moves (readers.Header reader) line.now result }
 {
-    match reader.line(line)? {
+    match reader.read_line(line)? {
         Step::More => Ok(Reader::Header(reader)),
         Step::Done => begin_blocks(alloc, reader, line),
     }
 }
 
-// Takes a line of the blocks.
+// Gives a line to the reader of the blocks, in place. Errors: the first fault of the lines, or out of memory.
 #[inline(always)]
 fn take_block_line(reader: &mut BlockReader, line: &Line<'_>) -> Result<(), ReadError>
     requires { IsReady (readers.Blocks reader.old) }
     ensures { Moves (readers.Blocks reader.old) line.now
         (moved result (readers.Blocks reader.new)) }
 {
-    reader.line(line)?;
+    reader.read_line(line)?;
     Ok(())
 }
 
-// Takes a line, whatever reads it. Its locals are large, and blocks do without them.
+// Gives a line to the reader, whether it reads the header or blocks. Errors: the first fault of the lines, or out of
+// memory. The call is not inlined, since its locals are large and lines of blocks seldom need it.
 #[inline(never)]
 fn take_any_line(alloc: Global, reader: &mut Reader, line: &Line<'_>) -> Result<(), ReadError>
     requires { IsReady reader.old }
@@ -95,27 +99,29 @@ fn take_any_line(alloc: Global, reader: &mut Reader, line: &Line<'_>) -> Result<
     }
 }
 
-// Takes a line, where it is: a reader of blocks is large.
+// Gives a line to the reader. Lines of blocks are given in place, since a reader of blocks is large; lines of the
+// header go to `take_any_line`. Errors: the first fault of the lines, or out of memory.
 #[inline(always)]
 fn take_line(alloc: Global, reader: &mut Reader, line: &Line<'_>) -> Result<(), ReadError>
     requires { IsReady reader.old }
     ensures { Moves reader.old line.now (moved result reader.new) }
 {
     match reader {
-        Reader::Header(_) => take_any_line(alloc, reader, &line.unread()),
+        Reader::Header(_) => take_any_line(alloc, reader, &line.without_triple()),
         Reader::Blocks(blocks) => take_block_line(blocks, line),
     }
 }
 
-/// The reader after a text, or the first fault of the text.
-pub(crate) fn feed(alloc: Global, mut reader: Reader, text: &[u8]) -> Result<Fed, ReadError>
+/// Gives all lines of a text to the reader. Returns the reader after them, with the number of the text's lines plus
+/// 1. Errors: the first fault of the text, or out of memory.
+pub(crate) fn feed_text(alloc: Global, mut reader: Reader, text: &[u8]) -> Result<Fed, ReadError>
     requires small { length text.now ≤ MAX_TEXT_BYTES }
     requires ready { IsReady reader }
     ensures { Feeds reader text.now result }
 {
     let mut lines = Tokens::new(text);
     loop {
-        match lines.plain_line() {
+        match lines.triple_line() {
             Some(line) => take_line(alloc, &mut reader, &line)?,
             None => match lines.line() {
                 LineStep::Line(line) => take_any_line(alloc, &mut reader, &line)?,
@@ -135,15 +141,18 @@ pub(crate) fn feed(alloc: Global, mut reader: Reader, text: &[u8]) -> Result<Fed
     }
 }
 
-// The ephemeris of the blocks that were read, where the lines end at this number.
+// Returns the ephemeris of the blocks that were read. `line` is the number of the last file's lines plus 1. Errors:
+// the fault at that line of a block that is not whole, or that no block was read.
 fn end_blocks(reader: BlockReader, line: u32) -> Result<Ephemeris, ReadError>
     ensures { Finishes line (ephemeris_after 0 (readers.Blocks reader) []) result }
 {
     reader.end(line)
 }
 
-// The same where the lines end in the header.
-fn end_header(alloc: Global, reader: HeaderReader, line: u32) -> Result<Ephemeris, ReadError>
+// Ends the reading within the header, at `line`, the number of the last file's lines plus 1. It always fails, with a
+// fault at that line, since a header that wants more lines is not whole. The last call is never reached: it serves
+// the types alone.
+fn end_within_header(alloc: Global, reader: HeaderReader, line: u32) -> Result<Ephemeris, ReadError>
     requires { WantsMore reader }
     ensures { Finishes line (ephemeris_after 0 (readers.Header reader) []) result }
 {
@@ -151,13 +160,14 @@ fn end_header(alloc: Global, reader: HeaderReader, line: u32) -> Result<Ephemeri
     end_blocks(BlockReader::new(alloc, header), line)
 }
 
-/// The ephemeris of all lines, where the last file's lines end at this number.
-pub(crate) fn end(alloc: Global, reader: Reader, line: u32) -> Result<Ephemeris, ReadError>
+/// Returns the ephemeris of all lines. `line` is the number of the last file's lines plus 1. Errors: a fault at that
+/// line, if a header or a block is not whole or no block was read; the fault that was met before; or out of memory.
+pub(crate) fn end_reading(alloc: Global, reader: Reader, line: u32) -> Result<Ephemeris, ReadError>
     requires { IsReady reader }
     ensures { Finishes line (ephemeris_after 0 reader []) result }
 {
     match reader {
-        Reader::Header(reader) => end_header(alloc, reader, line),
+        Reader::Header(reader) => end_within_header(alloc, reader, line),
         Reader::Blocks(reader) => end_blocks(reader, line),
     }
 }

@@ -10,7 +10,7 @@ ghost use Rattle.gf_find.specs.Reported.{AreNotOpened};
 
 use crate::searched::search_files;
 use gf_cert::certificate;
-use gf_check::line_over;
+use gf_check::request_line_over;
 use gf_edges::{Gate, Shelf};
 use gf_search::Wanted;
 use spec_certificates::MAX_CERT_LEAVES;
@@ -21,9 +21,9 @@ use std::alloc::Global;
 use std::sync::Wait;
 use std::thread::Threads;
 
-// Returns the certificate of leaves in a span: the line of the request, then the leaves. The only error is out of
-// memory.
-fn certificate_in(
+// Returns the certificate of leaves over a span: a line of its format, the line of the request, a line for each leaf,
+// and their number. The only error is out of memory.
+fn certificate_over_span(
     alloc: Global,
     find: &FindAsk,
     span: Span,
@@ -35,12 +35,13 @@ fn certificate_in(
     ensures text { IfOk result (λ text. text.items ≡ certificate_by find.now span leaves.now) }
     ensures memory { IfErr result (λ refusal. refusal ≡ Refusal.Memory) }
 {
-    let line = line_over(alloc, find, span)?;
+    let line = request_line_over(alloc, find, span)?;
     let text = certificate(alloc, &line, leaves)?;
     Ok(text)
 }
 
-/// Searches the files and returns the certificate of the search's leaves, or why there is none.
+/// Searches the ephemeris in the files of a request, and returns the certificate of the search's leaves, or why there
+/// is none.
 pub(crate) fn certificate_in_files<R: Threads + Wait + Sync, S: Shelf, G: Gate>(
     rt: &R,
     alloc: Global,
@@ -65,7 +66,7 @@ pub(crate) fn certificate_in_files<R: Threads + Wait + Sync, S: Shelf, G: Gate>(
         MAX_CERT_LEAVES,
         gate,
     ) {
-        Ok(found) => certificate_in(alloc, find, found.span, &found.leaves),
+        Ok(found) => certificate_over_span(alloc, find, found.span, &found.leaves),
         Err(refusal) => Err(refusal),
     }
 }

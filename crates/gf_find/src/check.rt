@@ -5,14 +5,14 @@ ghost use Rattle.spec_outcomes.specs.Outcomes.{summary_of};
 ghost use Rattle.gf_find.specs.Outcomes.{FilesHaveOutcome, HoldEphemeris, texts_of};
 ghost use Rattle.gf_find.specs.Reported.{AreNotOpened};
 
-use crate::files::ephemeris_of;
+use crate::files::ephemeris_of_files;
 use gf_edges::Shelf;
 use spec_outcomes::Refusal;
 use std::alloc::Global;
 use window_text::summary;
 
-/// Returns the summary of the ephemeris in the files, or why there is none. Without a name, or with too many, no file
-/// is opened.
+/// Returns the summary of the ephemeris in the files of these names, or why there is none. Without a name, or with too
+/// many, no file is opened.
 pub(crate) fn summary_of_files<S: Shelf>(
     alloc: Global,
     shelf: &mut S,
@@ -25,7 +25,7 @@ pub(crate) fn summary_of_files<S: Shelf>(
         (S.faults shelf.old) (S.faults shelf.new) summary_of (Err refusal)) }
     ensures unopened { AreNotOpened (texts_of names.now) → shelf.new ≡ shelf.old }
 {
-    let ephemeris = ephemeris_of(alloc, shelf, names)?;
+    let ephemeris = ephemeris_of_files(alloc, shelf, names)?;
     let text = summary(alloc, &ephemeris)?;
     Ok(text)
 }

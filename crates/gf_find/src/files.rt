@@ -12,35 +12,36 @@ use spec_requests::Text;
 use spec_text::Fault;
 use std::alloc::{AllocError, Global};
 
-// Copies a file's name into a text. The only error is out of memory.
-fn name_text(alloc: Global, name: &str) -> Result<Text, AllocError>
+// Copies the name of a file into a text of its own. The only error is out of memory.
+fn copy_name(alloc: Global, name: &str) -> Result<Text, AllocError>
     ensures { IfOk result (λ text. text ≡ name.now) }
 {
     Ok(Text::new(String::from_str(alloc, name)?))
 }
 
-/// Returns the refusal of the file of this name for a fault in it, or out of memory where its name cannot be copied.
+/// Returns the refusal of a run for a fault in the file of this name. It is out of memory if the name cannot be copied.
 pub(crate) fn refusal_by_name(alloc: Global, name: &str, fault: Fault) -> Refusal
     ensures { (result ≡ Refusal.Memory) ⊎ (result ≡ Refusal.File name.now fault) }
 {
-    match name_text(alloc, name) {
+    match copy_name(alloc, name) {
         Ok(name) => Refusal::File { name, fault },
         Err(AllocError) => Refusal::Memory,
     }
 }
 
-/// Returns the refusal for the file of this name, which could not be read, or out of memory where its name cannot be
-/// copied.
-pub(crate) fn unread_by_name(alloc: Global, name: &str) -> Refusal
+/// Returns the refusal of a run for the file of this name, which could not be read. It is out of memory if the name
+/// cannot be copied.
+pub(crate) fn unread_refusal_by_name(alloc: Global, name: &str) -> Refusal
     ensures { (result ≡ Refusal.Memory) ⊎ (result ≡ Refusal.NotRead name.now) }
 {
-    match name_text(alloc, name) {
+    match copy_name(alloc, name) {
         Ok(name) => Refusal::NotRead { name },
         Err(AllocError) => Refusal::Memory,
     }
 }
 
-// Returns the refusal of a file, by its place among the names, for a fault in it, or out of memory.
+// Returns the refusal of a run for a fault in a file. `file` is the place of its name among the names, counted from 0.
+// It is out of memory if the name cannot be copied.
 fn refusal_by_place(alloc: Global, names: &[String], file: usize, fault: Fault) -> Refusal
     requires { file < length names.now }
     ensures { (result ≡ Refusal.Memory) ⊎ ((name : List ℕ)
@@ -49,18 +50,19 @@ fn refusal_by_place(alloc: Global, names: &[String], file: usize, fault: Fault) 
     refusal_by_name(alloc, &names[file], fault)
 }
 
-// Returns the refusal for a file, by its place among the names, that could not be read, or out of memory.
-fn unread_by_place(alloc: Global, names: &[String], file: usize) -> Refusal
+// Returns the refusal of a run for a file that could not be read. `file` is the place of its name among the names,
+// counted from 0. It is out of memory if the name cannot be copied.
+fn unread_refusal_by_place(alloc: Global, names: &[String], file: usize) -> Refusal
     requires { file < length names.now }
     ensures { (result ≡ Refusal.Memory) ⊎ ((name : List ℕ)
         × (slice_get (texts_of names.now) file ≡ Some name) × (result ≡ Refusal.NotRead name)) }
 {
-    unread_by_name(alloc, &names[file])
+    unread_refusal_by_name(alloc, &names[file])
 }
 
-/// Reads the ephemeris in the files of these names, in their order. An error names the first file with a fault, or is
-/// out of memory. Without a name, or with too many, no file is opened.
-pub(crate) fn ephemeris_of<S: Shelf>(
+/// Reads the ephemeris in the files of these names, in their order. The error names the first file that has a fault or
+/// cannot be read, or is out of memory. Without a name, or with too many, no file is opened.
+pub(crate) fn ephemeris_of_files<S: Shelf>(
     alloc: Global,
     shelf: &mut S,
     names: &[String],
@@ -82,7 +84,7 @@ pub(crate) fn ephemeris_of<S: Shelf>(
     match read_files(alloc, shelf, names) {
         Ok(found) => Ok(found.ephemeris),
         Err(FilesError::Fault { file, fault }) => Err(refusal_by_place(alloc, names, file, fault)),
-        Err(FilesError::NotRead { file }) => Err(unread_by_place(alloc, names, file)),
+        Err(FilesError::NotRead { file }) => Err(unread_refusal_by_place(alloc, names, file)),
         Err(FilesError::Memory) => Err(Refusal::Memory),
     }
 }

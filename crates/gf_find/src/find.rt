@@ -24,8 +24,14 @@ use std::sync::Wait;
 use std::thread::Threads;
 use window_text::report;
 
-// Returns the report of the windows of leaves that follow one another over a span. The only error is out of memory.
-fn report_in(alloc: Global, find: &FindAsk, span: Span, leaves: &[Leaf]) -> Result<Vec<u8>, Refusal>
+// Returns the report of the windows that the leaves of a search make, which cover a span. Times are in the ticks of the
+// search since J2000 in TDB. The only error is out of memory.
+fn report_of_leaves(
+    alloc: Global,
+    find: &FindAsk,
+    span: Span,
+    leaves: &[Leaf],
+) -> Result<Vec<u8>, Refusal>
     requires tick { IsTick find.now.tick }
     requires from { IsTimeIn find.now.tick span.from }
     requires upto { IsTimeIn find.now.tick span.upto }
@@ -40,8 +46,9 @@ fn report_in(alloc: Global, find: &FindAsk, span: Span, leaves: &[Leaf]) -> Resu
     Ok(text)
 }
 
-/// Searches the files and returns the report of the windows that hold the events, or why there is none.
-pub(crate) fn find_in_files<R: Threads + Wait + Sync, S: Shelf, G: Gate>(
+/// Searches the ephemeris in the files of a request, and returns the report of the windows that hold the events, or why
+/// there is none.
+pub(crate) fn search_report_of_files<R: Threads + Wait + Sync, S: Shelf, G: Gate>(
     rt: &R,
     alloc: Global,
     shelf: &mut S,
@@ -57,7 +64,7 @@ pub(crate) fn find_in_files<R: Threads + Wait + Sync, S: Shelf, G: Gate>(
     ensures unopened { AreNotOpened find.now.files → shelf.new ≡ shelf.old }
 {
     match search_files(rt, alloc, Wanted::Windows, shelf, find, MAX_LEAVES, gate) {
-        Ok(found) => report_in(alloc, find, found.span, &found.leaves),
+        Ok(found) => report_of_leaves(alloc, find, found.span, &found.leaves),
         Err(refusal) => Err(refusal),
     }
 }

@@ -11,7 +11,7 @@ ghost use Rattle.spec_output.specs.Report.{generation};
 ghost use Rattle.spec_outcomes.specs.Outcomes.{generation_of};
 ghost use Rattle.gf_find.specs.Generates.{IsGeneration};
 
-use crate::files::ephemeris_of;
+use crate::files::ephemeris_of_files;
 use crate::text_shelf::TextShelf;
 use eph_gen::generate;
 use eph_model::Ephemeris;
@@ -27,25 +27,26 @@ use std::sync::Wait;
 use std::thread::Threads;
 use window_text::generation;
 
-// Returns the empty name, which the one file of a `TextShelf` has.
+// Returns the empty name, which is that of the one file of a `TextShelf`.
 fn empty_name(alloc: Global) -> String
     ensures { string_bytes result ≡ [] }
 {
     String::new(alloc)
 }
 
-// Reads the ephemeris in a text in memory. The only error of a text that holds one is out of memory.
+// Reads the ephemeris in a text in memory, as if it were a file. If the text holds one, the only error is out of
+// memory.
 fn ephemeris_of_text(alloc: Global, text: &[u8]) -> Result<Ephemeris, Refusal>
     ensures read { IfOk result (λ e. outcome (text.now ∷ []) ≡ Ok e) }
     ensures refused { (e : e.Ephemeris) → outcome (text.now ∷ []) ≡ Ok e
         → IfErr result (λ refusal. refusal ≡ Refusal.Memory) }
 {
     let mut shelf = TextShelf::new(text);
-    ephemeris_of(alloc, &mut shelf, &[empty_name(alloc)])
+    ephemeris_of_files(alloc, &mut shelf, &[empty_name(alloc)])
 }
 
-// Returns the two lines about the windows of leaves that follow one another over a generated text of `bytes` bytes.
-// The only error is out of memory.
+// Returns the two lines that `gen` prints: the blocks, the seed and the number of bytes of the generated text, and the
+// counts of the windows that leaves make, which cover its span. The only error is out of memory.
 fn lines_of_leaves(
     alloc: Global,
     blocks: u32,
@@ -64,7 +65,8 @@ fn lines_of_leaves(
     Ok(lines)
 }
 
-// Searches the ephemeris of a generated text of `bytes` bytes, and returns the two lines about it.
+// Searches the ephemeris of a generated text of `bytes` bytes for conjunctions, and returns the two lines that `gen`
+// prints, or why there are none.
 fn lines_of_ephemeris<R: Threads + Wait + Sync, G: Gate>(
     rt: &R,
     alloc: Global,
@@ -99,7 +101,8 @@ fn lines_of_ephemeris<R: Threads + Wait + Sync, G: Gate>(
     }
 }
 
-// Reads a generated text, searches its ephemeris and returns the two lines about it.
+// Reads a generated text, searches its ephemeris for conjunctions, and returns the two lines that `gen` prints, or why
+// there are none.
 fn lines_of_text<R: Threads + Wait + Sync, G: Gate>(
     rt: &R,
     alloc: Global,
@@ -131,8 +134,9 @@ fn lines_of_text<R: Threads + Wait + Sync, G: Gate>(
     )
 }
 
-/// Generates the text of `blocks` blocks from this seed, searches it, and returns the two lines about it.
-pub(crate) fn generation_of<R: Threads + Wait + Sync, G: Gate>(
+/// Generates the text of `blocks` blocks from this seed, searches its ephemeris for conjunctions, and returns the two
+/// lines that `gen` prints, or why there are none.
+pub(crate) fn lines_of_generation<R: Threads + Wait + Sync, G: Gate>(
     rt: &R,
     alloc: Global,
     blocks: u32,

@@ -18,8 +18,8 @@ use std::sync::Wait;
 use std::thread::Threads;
 use window_text::scalar_report;
 
-// Returns the report of the windows of leaves that follow one another over the scalar's span. The only error is out
-// of memory.
+// Returns the report of the windows that the leaves of a scalar's search make, which cover its span. The only error is
+// out of memory.
 fn report_of_leaves(alloc: Global, ask: &ScalarAsk, leaves: &[Leaf]) -> Result<Vec<u8>, Refusal>
     requires { Covers ask.now.from leaves.now ask.now.to }
     ensures text { IfOk result (λ text. text.items ≡ scalar_report ask.now (windows leaves.now)) }
@@ -30,9 +30,9 @@ fn report_of_leaves(alloc: Global, ask: &ScalarAsk, leaves: &[Leaf]) -> Result<V
     Ok(text)
 }
 
-/// Searches the span for the times at which a polynomial passes 0, and returns the report of their windows, or why
-/// there is none. No file is opened.
-pub(crate) fn scalar_text<R: Threads + Wait + Sync, G: Gate>(
+/// Searches a span for the times at which a polynomial passes 0, and returns the report of their windows, or why there
+/// is none. No file is opened.
+pub(crate) fn report_of_scalar<R: Threads + Wait + Sync, G: Gate>(
     rt: &R,
     alloc: Global,
     ask: &ScalarAsk,

@@ -7,7 +7,7 @@ ghost use Rattle.gf_find.specs.Outcomes.{HoldEphemeris};
 ghost use Rattle.gf_find.specs.Searches.{AreSearched, AreSearchedIn, SearchStops};
 ghost use Rattle.gf_find.specs.Reported.{AreNotOpened};
 
-use crate::files::ephemeris_of;
+use crate::files::ephemeris_of_files;
 use eph_model::Ephemeris;
 use gf_edges::{Gate, Shelf};
 use gf_query::span_asked;
@@ -27,8 +27,8 @@ pub(crate) struct Searched {
     pub(crate) leaves: Vec<Leaf>,
 }
 
-// Searches a span of an ephemeris that counts the ticks of the search, and returns the leaves that are wanted, or why
-// there are none.
+// Searches a span of an ephemeris, which counts the ticks of the search. As `wanted` says, it returns the leaves of the
+// search, or fewer with the same windows; or why there are none. More than `most` leaves are refused.
 fn search_span<R: Threads + Wait + Sync, G: Gate>(
     rt: &R,
     alloc: Global,
@@ -62,8 +62,9 @@ fn search_span<R: Threads + Wait + Sync, G: Gate>(
     }
 }
 
-// Searches an ephemeris that counts the ticks of the search, over the span that is asked for. A span outside the
-// files is refused.
+// Searches an ephemeris, which counts the ticks of the search, over the span that is asked for. As `wanted` says, it
+// returns the leaves of the search, or fewer with the same windows. A span that is not within the ephemeris, and more
+// than `most` leaves, are refused.
 fn search_ephemeris<R: Threads + Wait + Sync, G: Gate>(
     rt: &R,
     alloc: Global,
@@ -86,8 +87,8 @@ fn search_ephemeris<R: Threads + Wait + Sync, G: Gate>(
     }
 }
 
-/// Searches the files and returns what is wanted: all leaves of the search, or fewer leaves with the same windows. A
-/// search of more than `most` leaves is refused.
+/// Searches the ephemeris in the files of a request. As `wanted` says, it returns the leaves of the search, or fewer
+/// with the same windows; or why there are none. More than `most` leaves are refused.
 pub(crate) fn search_files<R: Threads + Wait + Sync, S: Shelf, G: Gate>(
     rt: &R,
     alloc: Global,
@@ -104,7 +105,7 @@ pub(crate) fn search_files<R: Threads + Wait + Sync, S: Shelf, G: Gate>(
         (S.files shelf.old) (S.faults shelf.old) (S.faults shelf.new) refusal) }
     ensures unopened { AreNotOpened find.now.files → shelf.new ≡ shelf.old }
 {
-    let ephemeris = ephemeris_of(alloc, shelf, find.files.as_slice())?;
+    let ephemeris = ephemeris_of_files(alloc, shelf, find.files.as_slice())?;
     let counted = ephemeris.in_ticks(find.tick);
     search_ephemeris(rt, alloc, wanted, &counted, find, most, gate)
 }

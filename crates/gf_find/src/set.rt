@@ -11,7 +11,7 @@ ghost use Rattle.gf_find.specs.Outcomes.{FilesHaveOutcome, HoldEphemeris};
 ghost use Rattle.gf_find.specs.Reported.{AreNotOpened};
 ghost use Rattle.gf_find.specs.Sets.{IsCountedSet, IsSetReport};
 
-use crate::files::ephemeris_of;
+use crate::files::ephemeris_of_files;
 use eph_model::Ephemeris;
 use gf_edges::{Gate, Shelf};
 use gf_query::span_asked;
@@ -25,7 +25,8 @@ use std::sync::Wait;
 use std::thread::Threads;
 use window_text::set_report;
 
-// Returns the report of the sure and the possible times in a span. The only error is out of memory.
+// Returns the report of the spans in which a relation surely holds, and of those in which it perhaps holds, over the
+// span that was searched. Times are in the ticks of the search since J2000 in TDB. The only error is out of memory.
 fn report_of_sets(
     alloc: Global,
     find: &FindAsk,
@@ -47,9 +48,9 @@ fn report_of_sets(
     Ok(text)
 }
 
-// Searches a span of an ephemeris that counts the ticks of the search, and returns the report of its sure and
-// possible times, or why there is none.
-fn set_in_span<R: Threads + Wait + Sync, G: Gate>(
+// Searches a span of an ephemeris, which counts the ticks of the search, for the times at which a function has a
+// relation to its references. Returns the report of the sure and the possible times, or why there is none.
+fn set_report_of_span<R: Threads + Wait + Sync, G: Gate>(
     rt: &R,
     alloc: Global,
     ephemeris: &Ephemeris,
@@ -80,9 +81,10 @@ fn set_in_span<R: Threads + Wait + Sync, G: Gate>(
     }
 }
 
-// Searches an ephemeris that counts the ticks of the search, over the span that is asked for. A span outside the
-// files is refused.
-fn set_in_ephemeris<R: Threads + Wait + Sync, G: Gate>(
+// Searches an ephemeris, which counts the ticks of the search, for the times at which a function has a relation to its
+// references, over the span that is asked for. Returns their report, or why there is none. A span that is not within
+// the ephemeris is refused.
+fn set_report_of_ephemeris<R: Threads + Wait + Sync, G: Gate>(
     rt: &R,
     alloc: Global,
     ephemeris: &Ephemeris,
@@ -101,14 +103,14 @@ fn set_in_ephemeris<R: Threads + Wait + Sync, G: Gate>(
         ⊎ (counted_set find.now ref2 relation ephemeris.now ≡ Err refusal)) }
 {
     match span_asked(find, ephemeris) {
-        Ok(span) => set_in_span(rt, alloc, ephemeris, find, ref2, relation, span, gate),
+        Ok(span) => set_report_of_span(rt, alloc, ephemeris, find, ref2, relation, span, gate),
         Err(refusal) => Err(refusal),
     }
 }
 
-/// Searches the files and returns the report of the times at which a function has a relation to its references, or
-/// why there is none.
-pub(crate) fn set_in_files<R: Threads + Wait + Sync, S: Shelf, G: Gate>(
+/// Searches the ephemeris in the files of a request for the times at which a function has a relation to its references.
+/// Returns the report of the sure and the possible times, or why there is none.
+pub(crate) fn set_report_of_files<R: Threads + Wait + Sync, S: Shelf, G: Gate>(
     rt: &R,
     alloc: Global,
     shelf: &mut S,
@@ -125,7 +127,7 @@ pub(crate) fn set_in_files<R: Threads + Wait + Sync, S: Shelf, G: Gate>(
         (set_of find.now ref2 relation) (Err refusal)) }
     ensures unopened { AreNotOpened find.now.files → shelf.new ≡ shelf.old }
 {
-    let ephemeris = ephemeris_of(alloc, shelf, find.files.as_slice())?;
+    let ephemeris = ephemeris_of_files(alloc, shelf, find.files.as_slice())?;
     let counted = ephemeris.in_ticks(find.tick);
-    set_in_ephemeris(rt, alloc, &counted, find, ref2, relation, gate)
+    set_report_of_ephemeris(rt, alloc, &counted, find, ref2, relation, gate)
 }

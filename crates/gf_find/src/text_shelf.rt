@@ -11,7 +11,7 @@ pub(crate) struct TextShelf<'t> {
 impl<'t> TextShelf<'t> {
     ghost use Rattle.std.specs.Prelude.{◌≡◌};
 
-    /// Makes a shelf of this text. No file is open yet.
+    /// Makes a shelf with this text as its one file, whose name is empty. No file is open yet.
     pub(crate) fn new(text: &'t [u8]) -> Self
         ensures { result.text.now ≡ text.entry.now }
     {
@@ -30,7 +30,7 @@ impl<'t> Shelf for TextShelf<'t> {
 
     ghost faults = { λ _. 0 };
 
-    // Opens the text for the empty name, at its start. Any other name fails, and no file is open then.
+    // Opens the text at its start if the name is empty. For any other name it fails, and no file is open then.
     fn open(&mut self, name: &str) -> Result<(), Failed> {
         if name.is_empty() {
             self.rest = Some(self.text);
@@ -41,7 +41,8 @@ impl<'t> Shelf for TextShelf<'t> {
         }
     }
 
-    // Reads the next bytes of the text into the buffer and returns how many: 0 at its end, or where no file is open.
+    // Reads the next bytes of the text into the buffer, and returns their number. It is 0 at the text's end, and if no
+    // file is open.
     fn read(&mut self, buf: &mut [u8]) -> Result<usize, Failed> {
         let Some(rest) = self.rest else {
             return Ok(0);

@@ -22,9 +22,9 @@ ghost use Rattle.gf_find.specs.Sets.{ReportsSet};
 ghost use Rattle.gf_find.specs.Scalars.{ReportsScalar};
 ghost use Rattle.gf_find.specs.Reported.{KnowsFiles, OpensNone, ReportsPart, ReportsWhole};
 
-use crate::answer::answer;
-use crate::messages::line_of;
-use crate::writing::{write_line, write_whole};
+use crate::answer::text_of_words;
+use crate::messages::line_of_refusal;
+use crate::writing::{write_line, write_whole_text};
 use gf_edges::{Failed, Gate, Shelf, Sink};
 use spec_outcomes::{NOT_WRITTEN, OUT_OF_MEMORY, REPORTED, Refusal};
 use std::alloc::{AllocError, Global};
@@ -86,9 +86,11 @@ pub fn finder<R: Threads + Wait + Sync, S: Shelf, O: Sink, E: Sink, G: Gate>(
         → result ≡ REPORTED → HoldEphemeris (S.files shelf.old) find.files
         (ReportsVerified (S.files shelf.old) find cert (O.bytes out.old) (O.bytes out.new)) }
 
+    // For `check` it is the summary of the ephemeris that the files hold.
     ensures check { (names : List (List ℕ)) → Ask words.now (Check names) → result ≡ REPORTED
         → HoldEphemeris (S.files shelf.old) names
         (ReportsSummary (O.bytes out.old) (O.bytes out.new)) }
+    // For `gen` it is the report of the text that was generated.
     ensures generated { (blocks seed workers : ℕ) → Ask words.now (Gen blocks seed workers)
         → result ≡ REPORTED → ReportsGeneration blocks seed (O.bytes out.old) (O.bytes out.new) }
 
@@ -119,7 +121,7 @@ pub fn finder<R: Threads + Wait + Sync, S: Shelf, O: Sink, E: Sink, G: Gate>(
         → Receives E.bytes E.faults err.old err.new write_text }
 
     // A run whose outcome is a text writes it, and one whose outcome is a cause is refused for it, unless something failed
-    // or memory is out. Which files there are has to be known only where one is opened.
+    // or memory is out. Which files there are has to be known only if one is opened.
     ensures complete { (text : List ℕ) → KnowsFiles words.now (S.files shelf.old)
         → HaveOutcome words.now (S.files shelf.old) (S.faults shelf.old) (S.faults shelf.new)
         (Ok text)
@@ -132,7 +134,7 @@ pub fn finder<R: Threads + Wait + Sync, S: Shelf, O: Sink, E: Sink, G: Gate>(
         → (result ≡ status_of refusal) ⊎ ((result ≡ OUT_OF_MEMORY)
         ⊎ Rose (S.faults shelf.old) (S.faults shelf.new)) }
 
-    // No file is opened where the words are refused, ask for a generated text or a polynomial, or name too many files.
+    // No file is opened if the words are refused, ask for a generated text or a polynomial, or name too many files.
     ensures unopened { OpensNone (request_of (texts_of words.now)) → shelf.new ≡ shelf.old }
 
     // Nothing else is written.
@@ -140,13 +142,14 @@ pub fn finder<R: Threads + Wait + Sync, S: Shelf, O: Sink, E: Sink, G: Gate>(
         → Keeps (O.bytes out.old) (O.bytes out.new) }
     ensures err_unchanged { result ≡ REPORTED → Keeps (E.bytes err.old) (E.bytes err.new) }
 {
-    match answer(rt, alloc, words, shelf, gate) {
+    match text_of_words(rt, alloc, words, shelf, gate) {
         Ok(text) => write_text(out, err, &text),
         Err(refusal) => write_refusal(alloc, err, &refusal),
     }
 }
 
-// Writes the text and returns the status: `REPORTED`, or `NOT_WRITTEN` where the sink failed, with a line to `err`.
+// Writes the text to `out` and returns the status: `REPORTED`, or `NOT_WRITTEN` if the sink failed, with a line to
+// `err` that says so.
 fn write_text<O: Sink, E: Sink>(out: &mut O, err: &mut E, text: &[u8]) -> u8
     ensures known { (result ≡ REPORTED) ⊎ (result ≡ NOT_WRITTEN) }
     ensures whole { result ≡ REPORTED → Appends (O.bytes out.old) (O.bytes out.new) text.now }
@@ -155,7 +158,7 @@ fn write_text<O: Sink, E: Sink>(out: &mut O, err: &mut E, text: &[u8]) -> u8
     ensures err_unchanged { result ≡ REPORTED → Keeps (E.bytes err.old) (E.bytes err.new) }
     ensures line { result ≡ NOT_WRITTEN → Receives E.bytes E.faults err.old err.new write_text }
 {
-    match write_whole(out, text) {
+    match write_whole_text(out, text) {
         Ok(()) => REPORTED,
         Err(Failed) => {
             write_line(err, b"finder: write fault\n");
@@ -164,14 +167,14 @@ fn write_text<O: Sink, E: Sink>(out: &mut O, err: &mut E, text: &[u8]) -> u8
     }
 }
 
-// Writes why there is no text and returns the status of that. Without memory for the line, out of memory is the
-// refusal.
+// Writes the line that reports a refusal to `err`, and returns the refusal's status. If there is no memory for the
+// line, it reports out of memory in its place.
 fn write_refusal<E: Sink>(alloc: Global, err: &mut E, refusal: &Refusal) -> u8
     ensures written { (cause : Refusal) × ((cause ≡ refusal.now) ⊎ (cause ≡ Refusal.Memory))
         × (result ≡ status_of cause)
         × Receives E.bytes E.faults err.old err.new (line_of cause) }
 {
-    match line_of(alloc, refusal) {
+    match line_of_refusal(alloc, refusal) {
         Ok(line) => {
             write_line(err, &line);
             refusal.status()
@@ -180,7 +183,7 @@ fn write_refusal<E: Sink>(alloc: Global, err: &mut E, refusal: &Refusal) -> u8
     }
 }
 
-// Writes that memory is out, and returns the status of that.
+// Writes the line that reports out of memory to `err`, and returns the status for it.
 fn write_out_of_memory<E: Sink>(err: &mut E) -> u8
     ensures status { result ≡ OUT_OF_MEMORY }
     ensures line { Receives E.bytes E.faults err.old err.new memory_text }

@@ -1,4 +1,4 @@
-// The command `verify`: the report of the windows of a certificate, where it breaks no rule.
+// The command `verify`: the report of the windows of a certificate, if it breaks no rule.
 ghost use Rattle.std.specs.Prelude.{◌≡◌, ◌⊎◌, ◌<◌, Err, IfErr, IfOk, None, true};
 ghost use Rattle.spec_ephemeris.specs.Ephemeris.{end_of};
 ghost use Rattle.spec_ephemeris.specs.Ticks.{IsTick, in_ticks};
@@ -17,10 +17,10 @@ ghost use Rattle.gf_find.specs.Verifies.{IsVerified};
 ghost use Rattle.gf_find.specs.Reported.{AreNotOpened};
 
 use crate::certificate_file::read_certificate;
-use crate::files::ephemeris_of;
+use crate::files::ephemeris_of_files;
 use eph_model::Ephemeris;
 use event_kinds::Event;
-use gf_check::verify;
+use gf_check::verify_certificate;
 use gf_edges::Shelf;
 use gf_hooks::{Cutter, rule_cut};
 use gf_query::{EventJudge, event_of, judge, span_asked};
@@ -28,9 +28,9 @@ use spec_outcomes::{Refusal, Span, query_of};
 use spec_requests::{FindAsk, Text};
 use std::alloc::Global;
 
-// Checks the certificate in a file by the judge of its search, and returns the report of its windows, or why there is
-// none.
-fn verify_text<S: Shelf>(
+// Reads the certificate in the file `cert` and checks it by the judge of its search over a span. Returns the report of
+// its windows, or why there is none. Times are in the ticks of the search since J2000 in TDB.
+fn verify_certificate_file<S: Shelf>(
     alloc: Global,
     shelf: &mut S,
     find: &FindAsk,
@@ -49,14 +49,15 @@ fn verify_text<S: Shelf>(
         (verification_of find.now judge.now.search span) (Err refusal)) }
 {
     match read_certificate(alloc, shelf, cert) {
-        Ok(text) => verify(alloc, find, span, judge, &text),
+        Ok(text) => verify_certificate(alloc, find, span, judge, &text),
         Err(refusal) => Err(refusal),
     }
 }
 
-// Makes the judge of an event without a fault over a span of an ephemeris that counts the ticks of the search, and
-// checks the certificate by it.
-fn verify_event<S: Shelf>(
+// Makes the judge of an event without a fault over a span of an ephemeris, and checks the certificate in the file
+// `cert` by it. The ephemeris counts the ticks of the search. Returns the report of the certificate's windows, or why
+// there is none.
+fn verify_by_event<S: Shelf>(
     alloc: Global,
     shelf: &mut S,
     ephemeris: &Ephemeris,
@@ -91,11 +92,13 @@ fn verify_event<S: Shelf>(
         return Err(Refusal::Memory);
     };
     let judge = judge(ephemeris, &query, event, Cutter::new(rule, cut));
-    verify_text(alloc, shelf, find, cert, span, &judge)
+    verify_certificate_file(alloc, shelf, find, cert, span, &judge)
 }
 
-// Makes the event of a search over a span, and checks the certificate for it. An event with a fault is refused.
-fn verify_span<S: Shelf>(
+// Makes the event of a search over a span of an ephemeris, and checks the certificate in the file `cert` for it. The
+// ephemeris counts the ticks of the search. Returns the report of its windows, or why there is none. An event with a
+// fault is refused.
+fn verify_over_span<S: Shelf>(
     alloc: Global,
     shelf: &mut S,
     ephemeris: &Ephemeris,
@@ -117,13 +120,15 @@ fn verify_span<S: Shelf>(
 {
     let query = query_of(find);
     match event_of(alloc, ephemeris, &query) {
-        Ok(event) => verify_event(alloc, shelf, ephemeris, find, cert, span, event),
+        Ok(event) => verify_by_event(alloc, shelf, ephemeris, find, cert, span, event),
         Err(refusal) => Err(refusal),
     }
 }
 
-// Checks the certificate over the span that is asked for. A span outside the files is refused.
-fn verify_ephemeris<S: Shelf>(
+// Checks the certificate in the file `cert` for a search of an ephemeris, which counts the ticks of the search, over
+// the span that is asked for. Returns the report of its windows, or why there is none. A span that is not within the
+// ephemeris is refused.
+fn verify_over_ephemeris<S: Shelf>(
     alloc: Global,
     shelf: &mut S,
     ephemeris: &Ephemeris,
@@ -141,14 +146,14 @@ fn verify_ephemeris<S: Shelf>(
         (S.faults shelf.old) (S.faults shelf.new) ephemeris.now (Err refusal)) }
 {
     match span_asked(find, ephemeris) {
-        Ok(span) => verify_span(alloc, shelf, ephemeris, find, cert, span),
+        Ok(span) => verify_over_span(alloc, shelf, ephemeris, find, cert, span),
         Err(refusal) => Err(refusal),
     }
 }
 
-/// Checks the certificate in the file `cert` for the search of these files, and returns the report of its windows, or
-/// why there is none. The certificate is opened only where the search could be made.
-pub(crate) fn verify_in_files<S: Shelf>(
+/// Checks the certificate in the file `cert` for a search of the files of a request. Returns the report of its windows,
+/// or why there is none. The certificate is opened only if the search could be made.
+pub(crate) fn verify_over_files<S: Shelf>(
     alloc: Global,
     shelf: &mut S,
     find: &FindAsk,
@@ -163,7 +168,7 @@ pub(crate) fn verify_in_files<S: Shelf>(
         (S.faults shelf.new) (in_ticks find.now.tick e) outcome) (Err refusal)) }
     ensures unopened { AreNotOpened find.now.files → shelf.new ≡ shelf.old }
 {
-    let ephemeris = ephemeris_of(alloc, shelf, find.files.as_slice())?;
+    let ephemeris = ephemeris_of_files(alloc, shelf, find.files.as_slice())?;
     let counted = ephemeris.in_ticks(find.tick);
-    verify_ephemeris(alloc, shelf, &counted, find, cert)
+    verify_over_ephemeris(alloc, shelf, &counted, find, cert)
 }

@@ -6,9 +6,9 @@ ghost use Rattle.spec_output.specs.Writing.{AppendsPart, Receives};
 
 use gf_edges::{Failed, Sink};
 
-/// Writes the whole text, offering the rest of it to the sink until none is left. Where the sink fails or takes
-/// nothing, a proper prefix of the text has been written.
-pub(crate) fn write_whole<K: Sink>(sink: &mut K, text: &[u8]) -> Result<(), Failed>
+/// Writes a whole text to a sink, and offers the rest of it until none is left. If the sink fails or takes nothing, it
+/// got a prefix of the text that is not all of it.
+pub(crate) fn write_whole_text<K: Sink>(sink: &mut K, text: &[u8]) -> Result<(), Failed>
     ensures whole { OnOk result (Appends (K.bytes sink.old) (K.bytes sink.new) text.now) }
     ensures part { OnErr result (AppendsPart (K.bytes sink.old) (K.bytes sink.new) text.now) }
     ensures cause { HasCause (K.faults sink.old) (K.faults sink.new) result }
@@ -24,9 +24,10 @@ pub(crate) fn write_whole<K: Sink>(sink: &mut K, text: &[u8]) -> Result<(), Fail
     Ok(())
 }
 
-/// Writes the text as far as the sink takes it. A failure is not reported, since no other place is left for a line.
+/// Writes a text to `err` as far as the sink takes it. A failure is not reported, since there is no other place to
+/// report it.
 pub(crate) fn write_line<E: Sink>(err: &mut E, text: &[u8])
     ensures received { Receives E.bytes E.faults err.old err.new text.now }
 {
-    let _ = write_whole(err, text);
+    let _ = write_whole_text(err, text);
 }

@@ -17,7 +17,8 @@ pub struct Cutter {
 }
 
 impl Cutter {
-    /// Keeps a closure that can be called at each span that can be cut, and returns the rule's cut of it.
+    /// Keeps a closure together with the rule whose cuts it returns. The closure can be called for each span that can
+    /// be cut.
     pub fn new(rule: CutRule, cut: Cut) -> Cutter
         requires callable { (a b : ℤ) → CanCut a b → Cut.pre cut a b }
         requires answers { (a b time : ℤ) → CanCut a b
@@ -27,14 +28,15 @@ impl Cutter {
         Cutter { rule, cut }
     }
 
-    /// Returns the rule of the cuts.
+    /// Returns the rule by which spans are cut.
     pub fn rule(&self) -> CutRule
         ensures { result ≡ self.now.rule }
     {
         self.rule
     }
 
-    /// Returns the rule's cut of the span from `a` to `b`, in ticks of TDB since J2000: a time strictly between them.
+    /// Returns the time at which the rule cuts the span from `a` to `b`, in ticks of TDB since J2000: strictly
+    /// between the two.
     pub fn cut(&self, a: i64, b: i64) -> i64
         requires { CanCut a b }
         ensures cut { result ≡ cut_of self.now.rule a b }

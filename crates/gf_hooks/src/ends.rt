@@ -8,17 +8,17 @@ use spec_events::Dir;
 use spec_intervals::Sign;
 use spec_trees::Turn;
 
-// Tells whether both signs are known and equal.
+// Tells whether the signs at a first and a last time are known, `Yes` or `No`, and equal.
 #[inline(always)]
-fn agree(first: Sign, last: Sign) -> bool
+fn are_known_and_equal(first: Sign, last: Sign) -> bool
     ensures { result ≡ agree first last }
 {
     matches!((first, last), (Sign::Yes, Sign::Yes) | (Sign::No, Sign::No))
 }
 
-// Tells whether a turn has a direction that is wanted.
+// Tells whether a turn has the direction that is wanted. With `Any` each turn has.
 #[inline(always)]
-fn wants(dir: Dir, turn: Turn) -> bool
+fn is_wanted(dir: Dir, turn: Turn) -> bool
     ensures { result ≡ wants dir turn }
 {
     match dir {
@@ -28,39 +28,42 @@ fn wants(dir: Dir, turn: Turn) -> bool
     }
 }
 
-/// Tells whether both signs are known and differ, in a direction that is wanted.
+/// Tells whether the signs at a first and a last time are known and differ, so that the function turns between them,
+/// and the turn has the direction that is wanted.
 #[inline(always)]
 pub fn differ(dir: Dir, first: Sign, last: Sign) -> bool
     ensures { result ≡ differ dir first last }
 {
     match (first, last) {
-        (Sign::No, Sign::Yes) => wants(dir, Turn::Rise),
-        (Sign::Yes, Sign::No) => wants(dir, Turn::Fall),
+        (Sign::No, Sign::Yes) => is_wanted(dir, Turn::Rise),
+        (Sign::Yes, Sign::No) => is_wanted(dir, Turn::Fall),
         _ => false,
     }
 }
 
-// Tells whether both signs are known and differ, against the direction that is wanted.
+// Tells whether the signs at a first and a last time are known and differ, but the turn between them does not have
+// the direction that is wanted.
 #[inline(always)]
-fn differ_against(dir: Dir, first: Sign, last: Sign) -> bool
+fn differ_unwanted(dir: Dir, first: Sign, last: Sign) -> bool
     ensures { result ≡ differ_against dir first last }
 {
     match (first, last) {
-        (Sign::No, Sign::Yes) => !wants(dir, Turn::Rise),
-        (Sign::Yes, Sign::No) => !wants(dir, Turn::Fall),
+        (Sign::No, Sign::Yes) => !is_wanted(dir, Turn::Rise),
+        (Sign::Yes, Sign::No) => !is_wanted(dir, Turn::Fall),
         _ => false,
     }
 }
 
-/// Tells whether both signs are known, and show no turn in a wanted direction from the first to the last.
+/// Tells whether the signs at a first and a last time are known, and show no turn in a wanted direction from the
+/// first to the last.
 #[inline(always)]
 pub fn has_no_turn(dir: Dir, first: Sign, last: Sign) -> bool
     ensures { result ≡ has_no_turn dir first last }
 {
-    agree(first, last) || differ_against(dir, first, last)
+    are_known_and_equal(first, last) || differ_unwanted(dir, first, last)
 }
 
-/// Returns the turn that leads to this sign: a rise to `Yes`, else a fall.
+/// Returns the turn after which a function has this sign: a rise for `Yes`, else a fall.
 #[inline(always)]
 pub fn turn_to(sign: Sign) -> Turn
     ensures { result ≡ turn_to sign }

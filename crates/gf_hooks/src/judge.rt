@@ -10,13 +10,13 @@ pub trait Judge: Sync {
     /// The first and the last time and the greatest depth of valid nodes, and the verdict and the parts of each.
     ghost rules: { Self → Rules };
 
-    /// Returns the verdict on a valid node.
+    /// Returns the verdict on a valid node: clear, one event, to be split, or undecided.
     fn judge(&self, node: Node) -> Verdict
         requires { IsValid (rules self.now) node }
         ensures { result ≡ (rules self.now).verdict node };
 
     /// Returns the two parts of a valid node that is to be split. They are valid, and meet in one time strictly
-    /// inside it.
+    /// inside the node.
     fn cut(&self, node: Node) -> (Node, Node)
         requires valid { IsValid (rules self.now) node }
         requires split { (rules self.now).verdict node ≡ Split }
@@ -29,7 +29,8 @@ pub trait Judge: Sync {
     ghost sound: { (judge : Self) → IsSound (rules judge) };
 }
 
-/// States that the rules of each judge are sound.
+/// States that the rules of each judge are sound: the parts of a valid node that is split are valid and cut it.
+/// Nothing is done.
 pub fn rules_are_sound<J: Judge>(judge: &J)
     ensures { IsSound (J.rules judge.now) }
 {}

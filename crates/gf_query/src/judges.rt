@@ -14,8 +14,8 @@ use gf_hooks::Cutter;
 use spec_outcomes::{Query, Refusal};
 use std::alloc::Global;
 
-/// Returns the states of the two bodies of a query over an ephemeris that counts the query's ticks. A query of one
-/// body has it twice.
+/// Returns the positions and velocities that the two bodies of a query have in an ephemeris, which counts the query's
+/// ticks, as the observer sees them. A query of one body has it twice.
 pub fn states<'e>(ephemeris: &'e Ephemeris, query: &Query) -> BodyStates<'e>
     requires block { 0 < ephemeris.now.blocks }
     requires query { IsQuery query.now }
@@ -27,9 +27,9 @@ pub fn states<'e>(ephemeris: &'e Ephemeris, query: &Query) -> BodyStates<'e>
     BodyStates::new(ephemeris, [ask.target, second], ask.observer, ask.frame)
 }
 
-/// Returns the judge of a query's search of an ephemeris that counts the query's ticks. The event is that of the
-/// query, and has no fault. The cutter is one by the query's rule: it holds a closure, so whoever searches or checks
-/// makes it.
+/// Returns the judge of a query's search of an ephemeris, which counts the query's ticks. The event is that of the
+/// query, which has no fault. The cutter cuts nodes by the query's rule: it holds a closure, so whoever searches or
+/// checks makes it.
 pub fn judge<'e>(
     ephemeris: &'e Ephemeris,
     query: &Query,
@@ -47,7 +47,8 @@ pub fn judge<'e>(
     EventJudge::new(states, ephemeris, event, query.width, query.depth, cutter)
 }
 
-/// Returns the event that a query asks for. An error is the first fault of the query, or out of memory.
+/// Returns the event that a query asks for, as formulas. The error is the first fault of the query over the ephemeris,
+/// or out of memory.
 pub fn event_of(alloc: Global, ephemeris: &Ephemeris, query: &Query) -> Result<Event, Refusal>
     requires { IsQuery query.now }
     ensures event { IfOk result (λ event. event ≡ event_of query.now.ask) }

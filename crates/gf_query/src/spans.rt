@@ -9,11 +9,13 @@ use spec_outcomes::{Refusal, Span};
 use spec_requests::FindAsk;
 use spec_trees::Node;
 
-/// Returns the whole span of an ephemeris, in its ticks since J2000 in TDB.
+/// Returns the whole span of an ephemeris, in its ticks since J2000 in TDB. The contract also says that the ephemeris
+/// is a checked one.
 pub fn whole_span(ephemeris: &Ephemeris) -> Span
     ensures span { result ≡ whole_span ephemeris.now }
     ensures checked { IsEphemeris ephemeris.now }
 {
+    // Only the contract of this call is wanted: it says that the ephemeris is a checked one.
     let _header = ephemeris.header();
     Span {
         from: ephemeris.start(),
@@ -21,8 +23,9 @@ pub fn whole_span(ephemeris: &Ephemeris) -> Span
     }
 }
 
-// Returns the span that the words ask for. Where they leave out its start or its end, the ephemeris gives it.
-fn span_of(find: &FindAsk, ephemeris: &Ephemeris) -> Span
+// Returns the span that the words of a search ask for, in ticks since J2000 in TDB. If they leave out its start or its
+// end, it has that of the ephemeris.
+fn span_of_words(find: &FindAsk, ephemeris: &Ephemeris) -> Span
     ensures { result ≡ span_of find.now ephemeris.now }
 {
     Span {
@@ -31,15 +34,16 @@ fn span_of(find: &FindAsk, ephemeris: &Ephemeris) -> Span
     }
 }
 
-// Tells whether the span holds a time and lies within the ephemeris.
-fn is_within(span: Span, ephemeris: &Ephemeris) -> bool
+// Tells whether a span ends after it begins, and lies within the times of an ephemeris.
+fn is_span_within(span: Span, ephemeris: &Ephemeris) -> bool
     ensures { result ≡ is_within span ephemeris.now }
 {
     ephemeris.start() <= span.from && span.from < span.upto && span.upto <= ephemeris.end()
 }
 
-/// Returns the span that a search asks of an ephemeris that counts its ticks. Where the words leave out its start or
-/// its end, the ephemeris gives it. `Outside` where the span holds no time, or does not lie within the ephemeris.
+/// Returns the span that a search asks of an ephemeris, which counts the ticks of the search. If the words leave out
+/// its start or its end, it has that of the ephemeris. The error is `Outside`, if the span holds no time or does not
+/// lie within the ephemeris.
 pub fn span_asked(find: &FindAsk, ephemeris: &Ephemeris) -> Result<Span, Refusal>
     ensures span { IfOk result (λ span. span ≡ span_of find.now ephemeris.now) }
     ensures within { IfOk result (λ span. is_within span ephemeris.now ≡ true) }
@@ -48,8 +52,8 @@ pub fn span_asked(find: &FindAsk, ephemeris: &Ephemeris) -> Result<Span, Refusal
     ensures outside { IfErr result (λ _.
         is_within (span_of find.now ephemeris.now) ephemeris.now ≡ false) }
 {
-    let span = span_of(find, ephemeris);
-    if is_within(span, ephemeris) {
+    let span = span_of_words(find, ephemeris);
+    if is_span_within(span, ephemeris) {
         Ok(span)
     } else {
         Err(Refusal::Outside {
@@ -59,7 +63,7 @@ pub fn span_asked(find: &FindAsk, ephemeris: &Ephemeris) -> Result<Span, Refusal
     }
 }
 
-/// Returns the root of a span's tree, at depth 0.
+/// Returns the root of the tree of a search over a span: a node of all its times, at depth 0.
 pub fn root_of(span: Span) -> Node
     ensures { result ≡ root span.from span.upto }
 {

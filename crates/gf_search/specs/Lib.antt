@@ -1,2 +1,3 @@
+pub mod Coarser
 pub mod Wanted
 pub mod Reached

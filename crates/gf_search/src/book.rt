@@ -15,8 +15,9 @@ use std::sync::Wait;
 use std::thread::Threads;
 use steal_pool::{PoolError, run};
 
-// Returns the leaves of a book, in order of time. The only error is `Memory`.
-fn leaves_of(alloc: Global, book: &Book) -> Result<Vec<Leaf>, Refusal>
+// Returns the leaves of a book, which workers entered as they found them, in order of time. The only error is
+// `Memory`.
+fn ordered_leaves_of_book(alloc: Global, book: &Book) -> Result<Vec<Leaf>, Refusal>
     requires { CoverRoot book.now.root book.now.entries.items }
     ensures leaves { IfOk result (λ found. found.items ≡ ordered_leaves book.now.entries.items) }
     ensures memory { IfErr result (λ refusal. refusal ≡ Refusal.Memory) }
@@ -25,10 +26,10 @@ fn leaves_of(alloc: Global, book: &Book) -> Result<Vec<Leaf>, Refusal>
     Ok(found)
 }
 
-/// Returns the leaves of a judge's tree at a root, in order of time, which the workers of a crew find. The crew's
-/// gate is passed before each node is judged. Errors: `TooManyLeaves` where they are more than the crew may find,
-/// or `Memory`.
-pub(crate) fn leaves_by<R: Threads + Wait + Sync, J: Judge, G: Gate>(
+/// Returns the leaves of a judge's tree at a root, in order of time, which the workers of a crew find. Each passes
+/// the crew's gate before it judges a node. Errors: `TooManyLeaves` if there are more than the crew may find, or
+/// `Memory`.
+pub(crate) fn leaves_by_crew<R: Threads + Wait + Sync, J: Judge, G: Gate>(
     crew: &Crew<R, G>,
     judge: &J,
     root: Node,
@@ -48,7 +49,7 @@ pub(crate) fn leaves_by<R: Threads + Wait + Sync, J: Judge, G: Gate>(
         crew.max_leaves,
         crew.gate,
     ) {
-        Ok(book) => leaves_of(crew.alloc, &book),
+        Ok(book) => ordered_leaves_of_book(crew.alloc, &book),
         Err(PoolError::TooMany) => Err(Refusal::TooManyLeaves {
             most: crew.max_leaves,
         }),

@@ -4,14 +4,15 @@ ghost use Rattle.spec_sets.specs.Signs.{both, either, opposite};
 ghost use Rattle.spec_outcomes.specs.Sets.{relation_sign};
 ghost use Rattle.gf_search.specs.Reached.{AreJoined, AreWithin, HasSets};
 
-use crate::references::Both;
+use crate::references::ReferenceTimes;
 use gf_sets::Pair;
 use spec_outcomes::Span;
 use spec_requests::Relation;
 use std::alloc::{AllocError, Global};
 
-// Returns the times of a span that are in the first sets and not in the second. The only error is out of memory.
-fn inside(alloc: Global, first: &Pair, second: &Pair, span: Span) -> Result<Pair, AllocError>
+// Returns the times of a span that are in the first sets and not in the second, as `Within` asks: at least the first
+// reference, and below the second. The only error is out of memory.
+fn times_inside(alloc: Global, first: &Pair, second: &Pair, span: Span) -> Result<Pair, AllocError>
     requires span { HasSets span }
     requires within { AreWithin span second.now.sure second.now.maybe }
     ensures { IfOk result (λ pair.
@@ -21,9 +22,9 @@ fn inside(alloc: Global, first: &Pair, second: &Pair, span: Span) -> Result<Pair
     first.intersect(alloc, &below)
 }
 
-// Returns the times of a span that are not in the first sets, or are in the second. The only error is out of
-// memory.
-fn outside(alloc: Global, first: &Pair, second: &Pair, span: Span) -> Result<Pair, AllocError>
+// Returns the times of a span that are not in the first sets, or are in the second, as `Outside` asks: below the
+// first reference, or at least the second. The only error is out of memory.
+fn times_outside(alloc: Global, first: &Pair, second: &Pair, span: Span) -> Result<Pair, AllocError>
     requires span { HasSets span }
     requires within { AreWithin span first.now.sure first.now.maybe }
     ensures { IfOk result (λ pair.
@@ -33,12 +34,12 @@ fn outside(alloc: Global, first: &Pair, second: &Pair, span: Span) -> Result<Pai
     below.union(alloc, second)
 }
 
-/// Returns the times of a span that have a relation to references, from the times that are at least each of them.
-/// The only error is out of memory.
-pub(crate) fn combined(
+/// Returns the times of a span at which a function has a relation to its references, from the times at which it is at
+/// least each of them. The only error is out of memory.
+pub(crate) fn times_in_relation(
     alloc: Global,
     relation: Relation,
-    both: Both,
+    both: ReferenceTimes,
     span: Span,
 ) -> Result<Pair, AllocError>
     requires span { HasSets span }
@@ -51,7 +52,7 @@ pub(crate) fn combined(
     match relation {
         Relation::AtLeast => Ok(both.first),
         Relation::Less => both.first.complement(alloc, span.from, span.upto),
-        Relation::Within => inside(alloc, &both.first, both.second(), span),
-        Relation::Outside => outside(alloc, &both.first, both.second(), span),
+        Relation::Within => times_inside(alloc, &both.first, both.second(), span),
+        Relation::Outside => times_outside(alloc, &both.first, both.second(), span),
     }
 }

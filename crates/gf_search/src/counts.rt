@@ -11,9 +11,9 @@ use halving::count_one;
 use spec_trees::Leaf;
 use still_spans::StillList;
 
-// Returns a number that the leaves of the search's tree below one leaf do not pass. It is the leaf's weight, or a
-// judge's count where the weight is above `light`. None is returned where the number is above `limit`.
-fn below<J: Judge>(
+// Returns a number which the leaves of the search's tree below one leaf do not exceed: the leaf's weight, or, if that
+// is above `light`, the count that a judge's walk gives. None is returned if the number is above `limit`.
+fn leaf_count_below<J: Judge>(
     judge: &J,
     search: &EventSearch,
     stills: &StillList,
@@ -36,9 +36,9 @@ fn below<J: Judge>(
     }
 }
 
-// Tells whether no more than `most` leaves of the search's tree lie below some leaves, as far as is known. Below a
-// leaf that weighs more than `light` they are counted, and below any other its weight is taken.
-fn are_few_by<J: Judge>(
+// Tells whether no more than `most` leaves of the search's tree are known to lie below some leaves. Below a leaf that
+// weighs more than `light` they are counted; any other stands for as many as it weighs.
+fn are_few_with_heavy_counted<J: Judge>(
     judge: &J,
     search: &EventSearch,
     stills: &StillList,
@@ -52,7 +52,7 @@ fn are_few_by<J: Judge>(
 {
     let mut rest = u64::from(most);
     for leaf in leaves.iter() {
-        match below(judge, search, stills, *leaf, light, rest) {
+        match leaf_count_below(judge, search, stills, *leaf, light, rest) {
             Some(count) => rest -= count,
             None => return false,
         }
@@ -60,10 +60,10 @@ fn are_few_by<J: Judge>(
     true
 }
 
-/// Tells whether no more than `most` leaves of the tree of a search lie below leaves of a coarser tree, as far as
-/// is known. Their weights are added first. Where the sum is above `most`, but at most twice that, leaves below the
-/// heavy ones are counted: below those that weigh more than a fair share of half of `most`.
-pub(crate) fn are_few<J: Judge>(
+/// Tells whether no more than `most` leaves of the tree of a search are known to lie below leaves of a coarser tree.
+/// Their weights are added first. If the sum is above `most`, but at most twice that, leaves below the heavy ones are
+/// counted: below those that weigh more than a fair share of half of `most`.
+pub(crate) fn are_few_leaves_below<J: Judge>(
     judge: &J,
     search: &EventSearch,
     stills: &StillList,
@@ -74,10 +74,10 @@ pub(crate) fn are_few<J: Judge>(
     requires weighed { All (IsWeighed search.now stills.now) leaves.now }
     ensures { IsTrue result → leaves_below search.now leaves.now ≤ most }
 {
-    if are_few_by(judge, search, stills, leaves, u64::MAX, most) {
+    if are_few_with_heavy_counted(judge, search, stills, leaves, u64::MAX, most) {
         return true;
     }
-    if !are_few_by(
+    if !are_few_with_heavy_counted(
         judge,
         search,
         stills,
@@ -88,5 +88,5 @@ pub(crate) fn are_few<J: Judge>(
         return false;
     }
     let share = u64::from(most / 2) / (leaves.len() as u64 + 1);
-    are_few_by(judge, search, stills, leaves, share, most)
+    are_few_with_heavy_counted(judge, search, stills, leaves, share, most)
 }

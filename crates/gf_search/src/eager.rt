@@ -1,6 +1,6 @@
 // Leaves that have the windows of a search: the leaves of its eager tree, settled, or the leaves of its tree.
 ghost use Rattle.std.specs.Prelude.{◌≡◌, ◌≤◌, All, IfErr, IfOk, map};
-ghost use Rattle.spec_trees.specs.Tree.{HasTime, IsValid, leaf_count, leaves};
+ghost use Rattle.spec_trees.specs.Tree.{HasTime, leaf_count, leaves};
 ghost use Rattle.spec_searches.specs.Found.{rules};
 ghost use Rattle.spec_stills.specs.Still.{IsStill};
 ghost use Rattle.spec_stills.specs.Eager.{eager_rules};
@@ -9,6 +9,7 @@ ghost use Rattle.gf_search.specs.Wanted.{HaveWindows, StopsAt};
 
 use crate::coarse::coarse_leaves;
 use crate::crew::Crew;
+use crate::walk::Walk;
 use crate::whole::tree_leaves;
 use event_judge::{EventSearch, Judge};
 use gf_edges::Gate;
@@ -21,9 +22,9 @@ use std::sync::Wait;
 use std::thread::Threads;
 use still_spans::{EagerJudge, StillList, still_spans_by};
 
-/// Returns still spans of a search over the times of a node, in order of time, which the workers of a crew look
-/// for. The only error is `Memory`.
-pub(crate) fn stills_of<R: Threads + Sync, G>(
+/// Finds still spans of a search over the times of a node, by the workers of a crew, and returns them in order of
+/// time. The only error is `Memory`.
+pub(crate) fn still_spans_over_node<R: Threads + Sync, G>(
     crew: &Crew<R, G>,
     search: &EventSearch,
     node: Node,
@@ -44,82 +45,65 @@ pub(crate) fn stills_of<R: Threads + Sync, G>(
     }
 }
 
-// Returns the leaves of the eager tree of a search at a root, by a judge of the search's nodes and by still spans.
-// It does so where the tree of the search has no more leaves than the crew may find, as far as is known. Else it
-// returns an error: `Memory`, or another, which says nothing of the search.
+// Returns the leaves of the eager tree of a search that is walked, by still spans, in order of time, if the tree of
+// the search is known to have no more leaves than the crew may find. Else it returns an error: `Memory`, or another,
+// which says nothing of the search.
 fn eager_leaves<R: Threads + Wait + Sync, J: Judge, G: Gate>(
-    crew: &Crew<R, G>,
-    judge: &J,
-    search: &EventSearch,
+    walk: &Walk<R, J, G>,
     stills: &StillList,
-    root: Node,
 ) -> Result<Vec<Leaf>, Refusal>
-    requires rules { J.rules judge.now ≡ rules search.now }
-    requires valid { IsValid (rules search.now) root }
-    requires still { All (IsStill search.now) stills.now }
+    requires still { All (IsStill walk.now.search.now) stills.now }
     ensures leaves { IfOk result (λ found. found.items
-        ≡ leaves (eager_rules search.now stills.now) root) }
+        ≡ leaves (eager_rules walk.now.search.now stills.now) walk.now.root) }
     ensures few { IfOk result (λ found.
-        leaf_count (rules search.now) root ≤ crew.now.max_leaves) }
+        leaf_count (rules walk.now.search.now) walk.now.root ≤ walk.now.crew.now.max_leaves) }
 {
-    search.is_search();
+    walk.search.is_search();
     eager_trees_are_sound();
     leaves_cover_the_node();
     leaves_weigh_enough();
     the_tree_has_no_more_leaves_than_lie_below();
-    let eager = EagerJudge::new(judge, search, stills);
-    coarse_leaves(crew, &eager, judge, search, stills, root)
+    let eager = EagerJudge::new(walk.judge, walk.search, stills);
+    coarse_leaves(walk, &eager, stills)
 }
 
-// Returns leaves of the eager tree of a search at a root, settled by a judge of the search's nodes. An undecided
-// leaf becomes clear where it lies in a clear leaf of the search's tree.
-fn settled<J: Judge>(
-    judge: &J,
-    search: &EventSearch,
+// Returns leaves of the eager tree of a search that is walked, settled by the walk's judge: an undecided leaf becomes
+// clear if it lies in a clear leaf of the search's tree.
+fn settled_leaves<R, J: Judge, G>(
+    walk: &Walk<R, J, G>,
     stills: &StillList,
-    root: Node,
     found: Vec<Leaf>,
 ) -> Vec<Leaf>
-    requires rules { J.rules judge.now ≡ rules search.now }
-    requires valid { IsValid (rules search.now) root }
     requires time { All HasTime found.items }
-    ensures { result.items ≡ map (settled search.now root) found.items }
+    ensures { result.items ≡ map (settled walk.now.search.now walk.now.root) found.items }
 {
     let mut leaves = found;
-    let eager = EagerJudge::new(judge, search, stills);
-    eager.settle(root, &mut leaves);
+    let eager = EagerJudge::new(walk.judge, walk.search, stills);
+    eager.settle(walk.root, &mut leaves);
     leaves
 }
 
-/// Returns leaves that have the windows of the tree of a search at a root, in order of time, by a judge of its
-/// nodes and by still spans. They are the leaves of the eager tree, settled, where the tree has no more leaves than
-/// the crew may find, as far as is known. Else they are the leaves of the tree. Errors: `TooManyLeaves` where they
-/// are more than the crew may find, or `Memory`.
-pub(crate) fn windowed_leaves<R: Threads + Wait + Sync, J: Judge, G: Gate>(
-    crew: &Crew<R, G>,
-    judge: &J,
-    search: &EventSearch,
+/// Returns leaves that have the windows of a tree that is walked, in order of time, by still spans: the leaves of the
+/// eager tree, settled, if the tree is known to have no more leaves than the crew may find, and else the leaves of
+/// the tree. Errors: `TooManyLeaves` if these are more than the crew may find, or `Memory`.
+pub(crate) fn leaves_with_windows<R: Threads + Wait + Sync, J: Judge, G: Gate>(
+    walk: &Walk<R, J, G>,
     stills: &StillList,
-    root: Node,
 ) -> Result<Vec<Leaf>, Refusal>
-    requires rules { J.rules judge.now ≡ rules search.now }
-    requires valid { IsValid (rules search.now) root }
-    requires still { All (IsStill search.now) stills.now }
+    requires still { All (IsStill walk.now.search.now) stills.now }
     ensures windows { IfOk result (λ found.
-        HaveWindows crew.now.max_leaves search.now root found.items) }
+        HaveWindows walk.now.crew.now.max_leaves walk.now.search.now walk.now.root found.items) }
     ensures stopped { IfErr result (λ refusal.
-        StopsAt crew.now.max_leaves (leaf_count (rules search.now) root) refusal) }
+        StopsAt walk.now.crew.now.max_leaves
+        (leaf_count (rules walk.now.search.now) walk.now.root) refusal) }
 {
-    search.is_search();
+    walk.search.is_search();
     eager_trees_are_sound();
     settled_leaves_have_the_same_windows();
     leaves_cover_the_node();
-    match eager_leaves(crew, judge, search, stills, root) {
-        Ok(found) => {
-            let leaves = settled(judge, search, stills, root, found);
-            Ok(leaves)
-        }
+    match eager_leaves(walk, stills) {
+        Ok(found) => Ok(settled_leaves(walk, stills, found)),
         Err(Refusal::Memory) => Err(Refusal::Memory),
-        Err(_) => tree_leaves(crew, judge, search, root),
+        Err(_) => tree_leaves(walk),
     }
 }

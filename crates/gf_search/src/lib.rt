@@ -24,6 +24,8 @@ mod remembered;
 mod scalar_search;
 mod search;
 mod signs;
+mod span_task;
+mod walk;
 mod wanted;
 mod whole;
 

@@ -1,14 +1,14 @@
 // The times at which the function of a query is at least 0, which is to say at least the reference.
-ghost use Rattle.std.specs.Prelude.{◌≡◌, ◌<◌, ◌≤◌, ℤ, ◌≤ℤ◌, IfErr, IfOk, None, true};
+ghost use Rattle.std.specs.Prelude.{◌≡◌, ◌<◌, ℤ, ◌≤ℤ◌, IfErr, IfOk, None, true};
 ghost use Rattle.spec_kinds.specs.Faults.{fault_of};
 ghost use Rattle.spec_kinds.specs.Kinds.{event_of};
 ghost use Rattle.spec_trees.specs.Tree.{Covers};
 ghost use Rattle.spec_sets.specs.Pairs.{AreOf};
-ghost use Rattle.spec_requests.specs.declared.limits.TheConstants.{MAX_WORKERS};
 ghost use Rattle.spec_outcomes.specs.Queries.{is_within, search};
 ghost use Rattle.spec_outcomes.specs.Sets.{IsSetQuery, signs_by, signs_in};
 ghost use Rattle.gf_search.specs.Reached.{AreReached, HasTooMany};
 
+use crate::span_task::SpanTask;
 use crate::{Crew, Wanted, leaves};
 use eph_model::Ephemeris;
 use event_kinds::Event;
@@ -22,9 +22,9 @@ use std::alloc::{AllocError, Global};
 use std::sync::Wait;
 use std::thread::Threads;
 
-// Returns the times of a span at which the function of a query is at least 0, by leaves that show the signs of the
-// search for the query's event. The only error is out of memory.
-fn reached_by(
+// Returns the times of a span at which the function of a query is at least 0, from leaves that show the signs of the
+// search for the query's event. The header is read for what the call ensures. The only error is out of memory.
+fn times_reached_by_leaves(
     alloc: Global,
     ephemeris: &Ephemeris,
     query: &Query,
@@ -49,39 +49,37 @@ fn reached_by(
     at_least(alloc, event.function(), &states, span.from, leaves)
 }
 
-/// Returns the times of a span at which the function of a query is at least 0: the sure times and the possible
-/// ones. A search for the query's event, which has no fault, finds them. Errors: `TooManyLeaves` where the search
-/// has more than may be found, or `Memory`.
-pub(crate) fn reached<R: Threads + Wait + Sync, G: Gate>(
-    rt: &R,
-    alloc: Global,
-    ephemeris: &Ephemeris,
+/// Searches a task's span for the query's event, which has no fault, and returns the times at which the query's
+/// function is at least 0: the sure times and the possible ones. Errors: `TooManyLeaves` if the search has more than
+/// may be found, or `Memory`.
+pub(crate) fn reached_times<R: Threads + Wait + Sync, G: Gate>(
+    task: &SpanTask<R, G>,
     query: &Query,
     event: &Event,
-    span: Span,
-    workers: u32,
-    gate: &G,
 ) -> Result<Pair, Refusal>
-    requires some { 1 ≤ workers }
-    requires workers { workers ≤ MAX_WORKERS }
-    requires block { 0 < ephemeris.now.blocks }
     requires query { IsSetQuery query.now }
-    requires within { is_within span ephemeris.now ≡ true }
-    requires sound { fault_of ephemeris.now query.now.ask ≡ None }
+    requires sound { fault_of task.now.ephemeris.now query.now.ask ≡ None }
     requires event { event.now ≡ event_of query.now.ask }
     ensures reached { IfOk result (λ pair.
-        AreReached (search query.now ephemeris.now) span pair.sure pair.maybe) }
+        AreReached (search query.now task.now.ephemeris.now) task.now.span pair.sure pair.maybe) }
     ensures stopped { IfErr result (λ refusal.
-        HasTooMany (search query.now ephemeris.now) span refusal) }
+        HasTooMany (search query.now task.now.ephemeris.now) task.now.span refusal) }
 {
     let crew = Crew {
-        runtime: rt,
-        alloc,
-        workers,
+        runtime: task.runtime,
+        alloc: task.alloc,
+        workers: task.workers,
         max_leaves: MAX_LEAVES,
-        gate,
+        gate: task.gate,
     };
-    let found = leaves(&crew, Wanted::Signs, ephemeris, query, span)?;
-    let pair = reached_by(alloc, ephemeris, query, event, span, &found)?;
+    let found = leaves(&crew, Wanted::Signs, task.ephemeris, query, task.span)?;
+    let pair = times_reached_by_leaves(
+        task.alloc,
+        task.ephemeris,
+        query,
+        event,
+        task.span,
+        &found,
+    )?;
     Ok(pair)
 }

@@ -4,8 +4,9 @@ ghost use Rattle.spec_requests.specs.declared.limits.TheConstants.{MAX_WORKERS};
 ghost use Rattle.spec_outcomes.specs.Queries.{is_within};
 ghost use Rattle.spec_outcomes.specs.Sets.{AreSetsFound, IsSetQuery, SetStops, other_query};
 
-use crate::combined::combined;
-use crate::references::about;
+use crate::combined::times_in_relation;
+use crate::references::reference_times;
+use crate::span_task::SpanTask;
 use eph_model::Ephemeris;
 use gf_edges::Gate;
 use gf_sets::Pair;
@@ -16,12 +17,12 @@ use std::alloc::Global;
 use std::sync::Wait;
 use std::thread::Threads;
 
-/// Returns the times of a span at which the function of a query has a relation to its references: those that are
-/// sure to have it, and those that may. From 1 to 64 workers search for them. The query wants all turns, of a kind
-/// that has sets, and its number is the first reference. Where there is no second reference, the first stands for
-/// it. Times are in the ticks of the ephemeris since J2000 in TDB. Errors: the fault of the event, about the first
-/// reference and then about the second; `TooManyLeaves` where the search about one of them has more than may be;
-/// `Memory`.
+/// Returns the times of a span at which the function of a query has a relation to its references: those that are sure
+/// to have it, and those that may. From 1 to 64 workers search for them. The query wants all turns, of a kind that
+/// has sets, and its number is the first reference. If there is no second reference, the first stands for it. Times
+/// are in the ticks of the ephemeris since J2000 in TDB. Errors: the fault of the event, about the first reference
+/// and then about the second; `TooManyLeaves` if the search about one of them has more than may be; `Memory`. The
+/// header and the lists that are not used are taken for what their calls ensure.
 pub fn related<R: Threads + Wait + Sync, G: Gate>(
     rt: &R,
     alloc: Global,
@@ -45,8 +46,16 @@ pub fn related<R: Threads + Wait + Sync, G: Gate>(
         SetStops relation query.now (other_query query.now ref2) ephemeris.now span refusal) }
 {
     let _header = ephemeris.header();
-    let both = about(rt, alloc, ephemeris, query, ref2, span, workers, gate)?;
-    let pair = combined(alloc, relation, both, span)?;
+    let task = SpanTask {
+        runtime: rt,
+        alloc,
+        workers,
+        gate,
+        ephemeris,
+        span,
+    };
+    let both = reference_times(&task, query, ref2)?;
+    let pair = times_in_relation(alloc, relation, both, span)?;
     let _sure = pair.sure.list();
     let _maybe = pair.maybe.list();
     Ok(pair)

@@ -6,8 +6,9 @@ ghost use Rattle.spec_stills.specs.Still.{IsStill};
 ghost use Rattle.gf_search.specs.Wanted.{AreWanted, StopsAt};
 
 use crate::crew::Crew;
-use crate::eager::{stills_of, windowed_leaves};
-use crate::signs::signed_leaves;
+use crate::eager::{leaves_with_windows, still_spans_over_node};
+use crate::signs::leaves_with_signs;
+use crate::walk::Walk;
 use crate::wanted::Wanted;
 use crate::whole::tree_leaves;
 use event_judge::{EventSearch, Judge, Naming, RememberingJudge};
@@ -19,9 +20,9 @@ use std::sync::Wait;
 use std::thread::Threads;
 use still_spans::StillList;
 
-// Returns still spans of a search over the times of a node, in order of time, which the workers of a crew look for.
-// It returns none where leaves are wanted. The only error is `Memory`.
-fn stills_for<R: Threads + Sync, G>(
+// Finds still spans of a search over the times of a node, by the workers of a crew, and returns them in order of
+// time. If leaves are wanted, which still spans cannot serve, it returns none. The only error is `Memory`.
+fn still_spans_if_wanted<R: Threads + Sync, G>(
     crew: &Crew<R, G>,
     wanted: Wanted,
     search: &EventSearch,
@@ -32,93 +33,89 @@ fn stills_for<R: Threads + Sync, G>(
 {
     match wanted {
         Wanted::Leaves => Ok(StillList::new(Vec::new(crew.alloc))),
-        Wanted::Windows => stills_of(crew, search, node),
-        Wanted::Signs => stills_of(crew, search, node),
+        Wanted::Windows => still_spans_over_node(crew, search, node),
+        Wanted::Signs => still_spans_over_node(crew, search, node),
     }
 }
 
-// Returns the leaves that are wanted of the tree of a search at a root, by a judge of its nodes and by still spans.
-// Errors: `TooManyLeaves` where the tree has more leaves than the crew may find, or `Memory`.
-fn leaves_among<R: Threads + Wait + Sync, J: Judge, G: Gate>(
-    crew: &Crew<R, G>,
+// Returns the leaves that are wanted of a tree that is walked, by still spans, in order of time. Errors:
+// `TooManyLeaves` if the tree has more leaves than the crew may find, or `Memory`.
+fn leaves_by_stills<R: Threads + Wait + Sync, J: Judge, G: Gate>(
+    walk: &Walk<R, J, G>,
     wanted: Wanted,
-    judge: &J,
-    search: &EventSearch,
     stills: &StillList,
-    root: Node,
 ) -> Result<Vec<Leaf>, Refusal>
-    requires rules { J.rules judge.now ≡ rules search.now }
-    requires valid { IsValid (rules search.now) root }
-    requires still { All (IsStill search.now) stills.now }
+    requires still { All (IsStill walk.now.search.now) stills.now }
     ensures found { IfOk result (λ found.
-        AreWanted wanted crew.now.max_leaves search.now root found.items) }
+        AreWanted wanted walk.now.crew.now.max_leaves walk.now.search.now walk.now.root
+        found.items) }
     ensures stopped { IfErr result (λ refusal.
-        StopsAt crew.now.max_leaves (leaf_count (rules search.now) root) refusal) }
+        StopsAt walk.now.crew.now.max_leaves
+        (leaf_count (rules walk.now.search.now) walk.now.root) refusal) }
 {
     match wanted {
-        Wanted::Leaves => tree_leaves(crew, judge, search, root),
-        Wanted::Windows => windowed_leaves(crew, judge, search, stills, root),
-        Wanted::Signs => signed_leaves(crew, judge, search, stills, root),
+        Wanted::Leaves => tree_leaves(walk),
+        Wanted::Windows => leaves_with_windows(walk, stills),
+        Wanted::Signs => leaves_with_signs(walk, stills),
     }
 }
 
-// Returns the leaves that are wanted of the tree of a search at a root, by a judge of its nodes. Still spans are
-// looked for first, where they can serve. Errors: `TooManyLeaves` where the tree has more leaves than the crew may
-// find, or `Memory`.
+// Returns the leaves that are wanted of a tree that is walked, in order of time. Still spans are looked for first,
+// unless leaves are wanted. Errors: `TooManyLeaves` if the tree has more leaves than the crew may find, or `Memory`.
 fn wanted_leaves<R: Threads + Wait + Sync, J: Judge, G: Gate>(
-    crew: &Crew<R, G>,
+    walk: &Walk<R, J, G>,
     wanted: Wanted,
-    judge: &J,
-    search: &EventSearch,
-    root: Node,
 ) -> Result<Vec<Leaf>, Refusal>
-    requires rules { J.rules judge.now ≡ rules search.now }
-    requires valid { IsValid (rules search.now) root }
     ensures found { IfOk result (λ found.
-        AreWanted wanted crew.now.max_leaves search.now root found.items) }
+        AreWanted wanted walk.now.crew.now.max_leaves walk.now.search.now walk.now.root
+        found.items) }
     ensures stopped { IfErr result (λ refusal.
-        StopsAt crew.now.max_leaves (leaf_count (rules search.now) root) refusal) }
+        StopsAt walk.now.crew.now.max_leaves
+        (leaf_count (rules walk.now.search.now) walk.now.root) refusal) }
 {
-    match stills_for(crew, wanted, search, root) {
+    match still_spans_if_wanted(walk.crew, wanted, walk.search, walk.root) {
         Ok(stills) => {
             if stills.is_empty() {
-                tree_leaves(crew, judge, search, root)
+                tree_leaves(walk)
             } else {
-                leaves_among(crew, wanted, judge, search, &stills, root)
+                leaves_by_stills(walk, wanted, &stills)
             }
         }
         Err(refusal) => Err(refusal),
     }
 }
 
-// Returns the leaves that are wanted of the tree at a root of the search that a call has named. A judge of its
-// nodes is asked by one that remembers. Errors: `TooManyLeaves` where the tree has more leaves than the crew may
-// find, or `Memory`.
-fn named_leaves<R: Threads + Wait + Sync, N: Naming + Send + Sync, J: Judge, G: Gate>(
-    crew: &Crew<R, G>,
+// Returns the leaves that are wanted of a tree that is walked, in order of time, of the search that a call has named.
+// A judge that remembers stands before the walk's judge. Errors: `TooManyLeaves` if the tree has more leaves than the
+// crew may find, or `Memory`.
+fn leaves_of_named_search<R: Threads + Wait + Sync, N: Naming + Send + Sync, J: Judge, G: Gate>(
+    walk: &Walk<R, J, G>,
     wanted: Wanted,
-    judge: &J,
-    search: &EventSearch,
-    root: Node,
 ) -> Result<Vec<Leaf>, Refusal>
-    requires named { search.now ≡ N.search }
-    requires rules { J.rules judge.now ≡ rules search.now }
-    requires valid { IsValid (rules search.now) root }
+    requires named { walk.now.search.now ≡ N.search }
     ensures found { IfOk result (λ found.
-        AreWanted wanted crew.now.max_leaves search.now root found.items) }
+        AreWanted wanted walk.now.crew.now.max_leaves walk.now.search.now walk.now.root
+        found.items) }
     ensures stopped { IfErr result (λ refusal.
-        StopsAt crew.now.max_leaves (leaf_count (rules search.now) root) refusal) }
+        StopsAt walk.now.crew.now.max_leaves
+        (leaf_count (rules walk.now.search.now) walk.now.root) refusal) }
 {
-    let Ok(remembering) = RememberingJudge::<N, J>::new(crew.alloc, judge, search) else {
+    let Ok(judge) = RememberingJudge::<N, J>::new(walk.crew.alloc, walk.judge, walk.search) else {
         return Err(Refusal::Memory);
     };
-    wanted_leaves(crew, wanted, &remembering, search, root)
+    let remembering = Walk {
+        crew: walk.crew,
+        judge: &judge,
+        search: walk.search,
+        root: walk.root,
+    };
+    wanted_leaves(&remembering, wanted)
 }
 
-/// Returns the leaves that are wanted of the tree of a search at a root, by a judge of its nodes. What one worker
-/// of a crew finds out of the search is remembered for all of them. Errors: `TooManyLeaves` where the tree has more
-/// leaves than the crew may find, or `Memory`.
-pub(crate) fn remembered_leaves<R: Threads + Wait + Sync, J: Judge, G: Gate>(
+/// Returns the leaves that are wanted of the tree of a search at a root, by a judge of its nodes. What one worker of
+/// a crew finds out of the search is remembered for all of them. Errors: `TooManyLeaves` if the tree has more leaves
+/// than the crew may find, or `Memory`.
+pub(crate) fn leaves_by_memory<R: Threads + Wait + Sync, J: Judge, G: Gate>(
     crew: &Crew<R, G>,
     wanted: Wanted,
     judge: &J,
@@ -132,5 +129,11 @@ pub(crate) fn remembered_leaves<R: Threads + Wait + Sync, J: Judge, G: Gate>(
     ensures stopped { IfErr result (λ refusal.
         StopsAt crew.now.max_leaves (leaf_count (rules search.now) root) refusal) }
 {
-    named_leaves::<R, Brand, J, G>(crew, wanted, judge, search, root)
+    let walk = Walk {
+        crew,
+        judge,
+        search,
+        root,
+    };
+    leaves_of_named_search::<R, Brand, J, G>(&walk, wanted)
 }

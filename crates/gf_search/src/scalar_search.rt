@@ -18,8 +18,9 @@ use steal_pool::PoolError;
 // The latest time of a scalar. The earliest is as far before 0.
 const LATEST: i64 = MAX_SCALAR_TIME as i64;
 
-// Returns the judge of the search of the polynomial that is asked for.
-fn judge_of(ask: &ScalarAsk) -> ScalarJudge<Quad>
+// Makes the judge of the search of the polynomial that is asked for. Its coefficients are within the limits, so they
+// make one.
+fn scalar_judge(ask: &ScalarAsk) -> ScalarJudge<Quad>
     requires { IsScalarWithinLimits ask.now }
     ensures law { result.scalar.law ≡ quadratic_of ask.now }
     ensures first { result.scalar.first ≡ ask.now.from }
@@ -35,8 +36,8 @@ fn judge_of(ask: &ScalarAsk) -> ScalarJudge<Quad>
     }
 }
 
-// Returns the root of the search's tree: all times of the span, at the depth 0.
-fn root_of(ask: &ScalarAsk) -> Node
+// Returns the root of the search's tree: all times of the span that is asked for, at the depth 0.
+fn scalar_root(ask: &ScalarAsk) -> Node
     ensures { result ≡ scalar_root ask.now }
 {
     Node {
@@ -46,8 +47,8 @@ fn root_of(ask: &ScalarAsk) -> Node
     }
 }
 
-// Returns the refusal of a span that holds no time.
-fn outside(ask: &ScalarAsk) -> Refusal
+// Returns the refusal `Outside` of a span that holds no time, with that span and the whole one that may be asked for.
+fn outside_refusal(ask: &ScalarAsk) -> Refusal
     ensures { result ≡ Refusal.Outside (scalar_span ask.now) whole_scalar_span }
 {
     Refusal::Outside {
@@ -62,8 +63,8 @@ fn outside(ask: &ScalarAsk) -> Refusal
     }
 }
 
-// Returns the leaves of a search over a span that holds a time, in order of time. Errors: `TooManyLeaves` or
-// `Memory`.
+// Returns the leaves of the search of a polynomial over a span that holds a time, in order of time. Errors:
+// `TooManyLeaves` or `Memory`.
 fn search_span<R: Threads + Wait + Sync, G: Gate>(
     rt: &R,
     alloc: Global,
@@ -76,8 +77,8 @@ fn search_span<R: Threads + Wait + Sync, G: Gate>(
     ensures stopped { IfErr result (λ refusal. (refusal ≡ Refusal.Memory)
         ⊎ (found_scalar ask.now ≡ Err refusal)) }
 {
-    let judge = judge_of(ask);
-    let root = root_of(ask);
+    let judge = scalar_judge(ask);
+    let root = scalar_root(ask);
     match find_scalar(rt, alloc, &judge, root, ask.workers, MAX_LEAVES, gate) {
         Ok(book) => Ok(leaves(alloc, &book)?),
         Err(PoolError::TooMany) => Err(Refusal::TooManyLeaves { most: MAX_LEAVES }),
@@ -85,10 +86,10 @@ fn search_span<R: Threads + Wait + Sync, G: Gate>(
     }
 }
 
-/// Returns the leaves of the search of a polynomial that is asked for, in order of time. Its workers look for them
-/// at once. The leaves follow one another over the span. Their windows are those of the times at which the
-/// polynomial passes 0 in a wanted direction. Times are whole numbers. Errors: `Outside` where the span holds no
-/// time; `TooManyLeaves` where there are more than a report may have; `Memory`.
+/// Searches for the times at which the polynomial that is asked for passes 0 in a wanted direction, by workers at
+/// once, and returns the leaves of the search. They follow one another over the span in order of time, and their
+/// windows are those of the times sought. Times are whole numbers. Errors: `Outside` if the span holds no time;
+/// `TooManyLeaves` if there are more than a report may have; `Memory`.
 pub fn search_scalar<R: Threads + Wait + Sync, G: Gate>(
     rt: &R,
     alloc: Global,
@@ -103,6 +104,6 @@ pub fn search_scalar<R: Threads + Wait + Sync, G: Gate>(
     if ask.from < ask.to {
         search_span(rt, alloc, ask, gate)
     } else {
-        Err(outside(ask))
+        Err(outside_refusal(ask))
     }
 }

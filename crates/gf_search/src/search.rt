@@ -8,7 +8,7 @@ ghost use Rattle.spec_outcomes.specs.Queries.{IsQuery, is_within};
 ghost use Rattle.gf_search.specs.Wanted.{IsWanted};
 
 use crate::crew::Crew;
-use crate::remembered::remembered_leaves;
+use crate::remembered::leaves_by_memory;
 use crate::wanted::Wanted;
 use eph_model::Ephemeris;
 use event_kinds::Event;
@@ -20,9 +20,10 @@ use spec_trees::Leaf;
 use std::sync::Wait;
 use std::thread::Threads;
 
-// Returns the leaves that are wanted of the search of a query over a span, for the query's event, which has no
-// fault. Errors: `TooManyLeaves` where the search has more leaves than the crew may find, or `Memory`.
-fn wanted_of<R: Threads + Wait + Sync, G: Gate>(
+// Returns the leaves that are wanted of the search of a query over a span, for the query's event, which has no fault.
+// The header is read for what the call ensures. Errors: `TooManyLeaves` if the search has more leaves than the crew
+// may find, or `Memory`.
+fn wanted_leaves_of_query<R: Threads + Wait + Sync, G: Gate>(
     crew: &Crew<R, G>,
     wanted: Wanted,
     ephemeris: &Ephemeris,
@@ -53,13 +54,13 @@ fn wanted_of<R: Threads + Wait + Sync, G: Gate>(
     };
     let judge = judge(ephemeris, query, event, Cutter::new(rule, cut));
     let root = root_of(span);
-    remembered_leaves(crew, wanted, &judge, &judge.search, root)
+    leaves_by_memory(crew, wanted, &judge, &judge.search, root)
 }
 
 /// Searches a span of an ephemeris for the events of a query by the workers of a crew, and returns the leaves that
 /// are wanted (`Wanted`). They follow one another over the span in order of time. Times are in the ticks of the
-/// ephemeris since J2000 in TDB. Errors: the fault of the event; `TooManyLeaves` where the search has more leaves
-/// than the crew may find; `Memory`.
+/// ephemeris since J2000 in TDB. Errors: the fault of the event; `TooManyLeaves` if the search has more leaves than
+/// the crew may find; `Memory`.
 pub fn leaves<R: Threads + Wait + Sync, G: Gate>(
     crew: &Crew<R, G>,
     wanted: Wanted,
@@ -76,7 +77,7 @@ pub fn leaves<R: Threads + Wait + Sync, G: Gate>(
         Stops crew.now.max_leaves query.now ephemeris.now span refusal) }
 {
     match event_of(crew.alloc, ephemeris, query) {
-        Ok(event) => wanted_of(crew, wanted, ephemeris, query, event, span),
+        Ok(event) => wanted_leaves_of_query(crew, wanted, ephemeris, query, event, span),
         Err(refusal) => Err(refusal),
     }
 }

@@ -6,11 +6,11 @@ use Rattle.spec_trees.specs.declared.tree.Leaf.{Leaf}
 use Rattle.spec_trees.specs.declared.tree.Mark.TheVariants.{Clear}
 use Rattle.spec_trees.specs.Tree.{Covers}
 use Rattle.spec_trees.proofs.Placing.{covers_forward}
-use Rattle.spec_sets.specs.Spans.{IsAfterAll, Span, has}
+use Rattle.spec_sets.specs.Spans.{IsAfterAll, Span, earliest, has, latest}
 use Rattle.spec_sets.specs.Pairs.{AreOf}
 use Rattle.spec_sets.specs.Signs.{Follow, end_from, sign_in, sign_of_leaves}
 use Rattle.spec_sets.proofs.Members.{le_not, le_test}
-use Rattle.gf_sets.specs.Adding.{AreAdded}
+use Rattle.gf_sets.specs.Adding.{AreAdded, ComesNext}
 use Rattle.gf_sets.specs.Walking.{IsWalked, begins}
 use Rattle.std.proofs.lemmas.Bool.{false≢true}
 use Rattle.std.proofs.lemmas.List.{drop_all}
@@ -116,10 +116,10 @@ module _ (point : ℤ → Sign) (read from : ℤ) (same : read ≡ from) (leaves
     walked : IsWalked point from (end_from from leaves) leaves (here ∷ drop (i + 1) leaves) sure maybe
     walked = leaf_here filler within
 
-    pub here_wide : here.node.a <ℤ here.node.b
+    here_wide : here.node.a <ℤ here.node.b
     here_wide = leaf_wide point from (end_from from leaves) leaves here (drop (i + 1) leaves) sure maybe walked
 
-    pub here_from : from ≤ℤ here.node.a
+    here_from : from ≤ℤ here.node.a
     here_from = leaf_after point from (end_from from leaves) leaves here (drop (i + 1) leaves) sure maybe walked
 
     pub here_upto : here.node.b ≤ℤ end_from from leaves
@@ -131,8 +131,20 @@ module _ (point : ℤ → Sign) (read from : ℤ) (same : read ≡ from) (leaves
         let after = here_from in
         omega (arith, ints, wide, after)
 
-    pub sets_before : IsAfterAll sure (here.node.a +ℤ pos 1) × IsAfterAll maybe (here.node.a +ℤ pos 1)
+    sets_before : IsAfterAll sure (here.node.a +ℤ pos 1) × IsAfterAll maybe (here.node.a +ℤ pos 1)
     sets_before = sets_end point from (end_from from leaves) leaves here (drop (i + 1) leaves) sure maybe walked
+
+    pub here_next : earliest ≤ℤ from → end_from from leaves ≤ℤ latest → ComesNext here.node sure maybe
+    here_next early late =
+        let first = here_from in
+        let upto = here_upto in
+        record {
+          wide = here_wide;
+          early = omega (arith, ints, first, early);
+          late = omega (arith, ints, upto, late);
+          after_sure = sets_before.0;
+          after_maybe = sets_before.1;
+        }
 
     pub here_walked : (s m : List Span) → AreAdded (sign_in point here.node here.mark) (here.node.a +ℤ pos 1) here.node.b sure maybe s m
         → IsWalked point read (end_from read leaves) leaves (drop (i + 1) leaves) s m

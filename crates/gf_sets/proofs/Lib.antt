@@ -4,3 +4,4 @@ mod Complements
 mod Meeting
 mod Pairs
 mod Leaves
+mod Nodes

@@ -10,7 +10,7 @@ use Rattle.spec_sets.specs.Spans.{Span, is_in, has}
 use Rattle.spec_sets.specs.Pairs.{AreOf}
 use Rattle.spec_sets.specs.Spans.{is_between}
 use Rattle.gf_sets.specs.Adding.{AreAdded}
-use Rattle.spec_sets.specs.Signs.{both, is_possible, is_sure, opposite}
+use Rattle.spec_sets.specs.Signs.{is_possible, is_sure, opposite}
 use Rattle.spec_sets.proofs.Members.{le_so}
 use Rattle.spec_sets.specs.Spans.{IsAfterAll}
 

@@ -10,15 +10,18 @@ use crate::spans::Spans;
 use spec_intervals::Sign;
 use std::alloc::{AllocError, Global};
 
-/// Of the times of some span those that are sure to meet a condition, and those that may.
+/// The times of a span that are sure to meet a condition, and those that may meet it.
 #[derive(Drop)]
 pub struct Pair {
+    /// The times that are sure to meet the condition.
     pub sure: Spans,
+    /// The times that may meet the condition, the sure ones among them.
     pub maybe: Spans,
 }
 
 impl Pair {
-    /// The times that meet one of two conditions over the same times.
+    /// Returns the times that are sure to meet at least one of two conditions, and those that may, over the same
+    /// times. The only error is out of memory.
     pub fn union(&self, alloc: Global, other: &Pair) -> Result<Pair, AllocError>
         ensures sure { IfOk result (λ pair. (t : ℤ)
             → has pair.sure t ≡ (has self.now.sure t || has other.now.sure t)) }
@@ -34,7 +37,8 @@ impl Pair {
         Ok(Pair { sure, maybe })
     }
 
-    /// The times that meet both of two conditions over the same times.
+    /// Returns the times that are sure to meet both of two conditions, and those that may, over the same times. The
+    /// only error is out of memory.
     pub fn intersect(&self, alloc: Global, other: &Pair) -> Result<Pair, AllocError>
         ensures sure { IfOk result (λ pair. (t : ℤ)
             → has pair.sure t ≡ (has self.now.sure t && has other.now.sure t)) }
@@ -50,8 +54,8 @@ impl Pair {
         Ok(Pair { sure, maybe })
     }
 
-    /// The times from `from` to `to` that do not meet the condition: those are sure that were not possible, and those
-    /// possible that were not sure.
+    /// Returns the times from `from` to `to` that do not meet the condition. Those are sure that were not possible,
+    /// and those possible that were not sure. The only error is out of memory.
     pub fn complement(&self, alloc: Global, from: i64, to: i64) -> Result<Pair, AllocError>
         requires ordered { from ≤ℤ to }
         requires early { earliest ≤ℤ from }
@@ -71,8 +75,14 @@ impl Pair {
         Ok(Pair { sure, maybe })
     }
 
-    // Adds the times from a first to a last, if there are any. They come after all others and have this sign.
-    pub(crate) fn add(&mut self, first: i64, last: i64, sign: Sign) -> Result<(), AllocError>
+    // Adds the times from a first to a last, if there are any, which come after all others: to both sets for the sign
+    // `Yes`, to the possible times for `Open`, and to none for `No`. The only error is out of memory.
+    pub(crate) fn add_with_sign(
+        &mut self,
+        first: i64,
+        last: i64,
+        sign: Sign,
+    ) -> Result<(), AllocError>
         requires early { earliest ≤ℤ first }
         requires late { last ≤ℤ latest }
         requires after_sure { IsAfterAll self.old.sure first }
@@ -82,10 +92,10 @@ impl Pair {
     {
         match sign {
             Sign::Yes => {
-                self.sure.add(first, last)?;
-                self.maybe.add(first, last)
+                self.sure.push_if_any(first, last)?;
+                self.maybe.push_if_any(first, last)
             }
-            Sign::Open => self.maybe.add(first, last),
+            Sign::Open => self.maybe.push_if_any(first, last),
             Sign::No => Ok(()),
         }
     }

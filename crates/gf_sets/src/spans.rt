@@ -24,7 +24,7 @@ impl Model for Spans {
 }
 
 impl Spans {
-    /// No time. It does not allocate.
+    /// Makes the set that has no time. It does not allocate.
     pub fn new(alloc: Global) -> Spans
         ensures { result ≡ [] }
     {
@@ -33,7 +33,8 @@ impl Spans {
         }
     }
 
-    /// The spans in their order, each with its first and its last time. It does not allocate.
+    /// Returns the spans of a set of times in their order, each with its first and its last time. It does not
+    /// allocate.
     pub fn list(&self) -> &[(i64, i64)]
         ensures same { result.now ≡ self.now }
         ensures spans { AreSpans self.now }
@@ -41,8 +42,8 @@ impl Spans {
         &self.items
     }
 
-    /// Adds the times from a first to a last, which come after all others. They are joined to the last span where they
-    /// touch it. Where it is out of memory nothing has changed.
+    /// Adds the times from a first to a last, which come after all others. They are joined to the last span if they
+    /// touch it. If it is out of memory nothing has changed.
     pub fn push(&mut self, first: i64, last: i64) -> Result<(), AllocError>
         requires ordered { first ≤ℤ last }
         requires early { earliest ≤ℤ first }
@@ -63,8 +64,9 @@ impl Spans {
         }
     }
 
-    // Adds the times from a first to a last, if there are any. They come after all others.
-    pub(crate) fn add(&mut self, first: i64, last: i64) -> Result<(), AllocError>
+    // Adds the times from a first to a last, which come after all others. Nothing is added if the first is after the
+    // last. The only error is out of memory.
+    pub(crate) fn push_if_any(&mut self, first: i64, last: i64) -> Result<(), AllocError>
         requires early { first ≤ℤ last → earliest ≤ℤ first }
         requires late { last ≤ℤ latest }
         requires after { first ≤ℤ last → IsAfterAll self.old first }

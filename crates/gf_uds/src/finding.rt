@@ -18,9 +18,10 @@ use std::sync::Wait;
 use std::thread::Threads;
 use steal_pool::{PoolError, run};
 
-/// Returns the leaves of a span of a scalar's search, each entered once, by up to 64 workers at once. `TooMany` where
-/// there are more than `limit`. The windows of the book are those of the times after `root.a` and up to `root.b` at
-/// which the scalar passes 0 in a wanted direction: they hold each of these, and a certain one holds exactly one.
+/// Searches the times after `root.a` and up to `root.b` for those at which a scalar passes 0 in a wanted direction. 1
+/// to 64 workers find the leaves of the search's tree and enter each once into the book. The windows that these leaves
+/// make hold all times searched for, and a certain window holds exactly one. The error is `TooMany` if there are more
+/// than `limit` leaves, or `Memory`. The call passes the gate before each judging.
 pub fn find_scalar<R: Threads + Wait + Sync, L: Law + Sync + Drop, G: Gate>(
     rt: &R,
     alloc: Global,
@@ -53,8 +54,9 @@ pub fn find_scalar<R: Threads + Wait + Sync, L: Law + Sync + Drop, G: Gate>(
     run(rt, alloc, judge, root, workers, limit, gate)
 }
 
-/// Returns the leaves of a span of a scalar's search from left to right, by one walk. `TooMany` where there are more
-/// than `limit`.
+/// Returns the leaves of the tree of a scalar's search over a root span, in order of time, found by one walk in this
+/// thread. Their windows hold all times at which the scalar passes 0 in a wanted direction. The error is `TooMany` if
+/// there are more than `limit` leaves, or `Memory`.
 pub fn scalar_leaves<L: Law + Sync + Drop>(
     alloc: Global,
     judge: &ScalarJudge<L>,

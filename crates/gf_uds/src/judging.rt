@@ -7,7 +7,9 @@ ghost use Rattle.gf_uds.specs.Found.{reach_sign};
 use crate::judge::ScalarJudge;
 use crate::law::{Law, law_holds};
 use crate::scalar::Scalar;
-use crate::verdicts::{end_verdict, is_steady, is_turnless, limit_verdict, reach_sign};
+use crate::verdicts::{
+    is_decided_by_ends, is_turnless, reach_sign, verdict_by_ends, verdict_by_limits,
+};
 use gf_hooks::{CutRule, rule_cut};
 use halving::{Judge, Node, Verdict};
 use spec_events::Dir;
@@ -15,8 +17,8 @@ use spec_intervals::Sign;
 use spec_scalars::Plan;
 
 impl<L: Law + Drop> ScalarJudge<L> {
-    /// Makes the judge of the search of a scalar for its turns in a wanted direction. Nodes are split down to the
-    /// width, in times, and to the depth, and are cut by the rule.
+    /// Makes the judge of a search for the times at which a scalar passes 0 in the direction `want`. Nodes are split
+    /// that are wider than `width` times and less deep than `depth`, and are cut by the rule `cut`.
     pub fn new(scalar: Scalar<L>, want: Dir, width: i64, depth: u32, cut: CutRule) -> ScalarJudge<L>
         requires some_width { pos 1 ≤ℤ width }
         ensures scalar { result.scalar ≡ scalar }
@@ -39,7 +41,8 @@ impl<L: Law + Drop> ScalarJudge<L> {
         }
     }
 
-    // Returns the sign of the scalar at a single time, as far as it is known.
+    // Returns the sign of the scalar at a time, or `Open` if the scalar's bounds at that time lie on both sides of 0. A
+    // value of 0 counts as positive.
     fn sign_at(&self, t: i64) -> Sign
         requires from { self.now.scalar.first ≤ℤ t }
         requires to { t ≤ℤ self.now.scalar.last }
@@ -48,14 +51,17 @@ impl<L: Law + Drop> ScalarJudge<L> {
         reach_sign(self.scalar.reach(t, t))
     }
 
-    // Returns the depth down to which nodes are split.
-    fn deepest(&self) -> u32
+    // Returns the depth from which on nodes are not split. It reads the field through a call, since the proof of `cut`
+    // needs the fact that the depth fits 32 bits.
+    fn depth_limit(&self) -> u32
         ensures { result ≡ self.now.plan.depth }
     {
         self.plan.depth
     }
 
-    // Returns the verdict of a valid node.
+    // Returns the verdict of a valid node: clear if the bounds over the whole node show that no wanted event is in it.
+    // Else the signs at its two ends give the verdict, if they decide. Else it is split, or undecided at the limits of
+    // width and depth.
     fn verdict(&self, node: Node) -> Verdict
         requires { let s = search_over (L.scalar self.now.scalar.law)
             self.now.scalar.first self.now.scalar.last self.now.plan in IsValid (rules s) node }
@@ -66,10 +72,10 @@ impl<L: Law + Drop> ScalarJudge<L> {
         let whole = self.scalar.reach(node.a, node.b);
         if is_turnless(self.plan, whole) {
             Verdict::Clear
-        } else if is_steady(node, whole) {
-            end_verdict(self.plan, node, self.sign_at(node.a), self.sign_at(node.b))
+        } else if is_decided_by_ends(node, whole) {
+            verdict_by_ends(self.plan, node, self.sign_at(node.a), self.sign_at(node.b))
         } else {
-            limit_verdict(self.plan, node)
+            verdict_by_limits(self.plan, node)
         }
     }
 }
@@ -78,14 +84,15 @@ impl<L: Law + Sync + Drop> Judge for ScalarJudge<L> {
     ghost rules = { λ judge. rules (search_over (L.scalar judge.scalar.law)
         judge.scalar.first judge.scalar.last judge.plan) };
 
-    // Returns the verdict of a valid node.
+    // Returns the verdict of a valid node of the scalar's tree.
     fn judge(&self, node: Node) -> Verdict {
         self.verdict(node)
     }
 
-    // Cuts a node at the time that the rule names, into its left and its right part, one level deeper.
+    // Cuts a node at the time that the rule names, and returns its left and its right part, one level deeper. The limit
+    // of depth is read for the proof alone: a split node lies above it, so one more level fits 32 bits.
     fn cut(&self, node: Node) -> (Node, Node) {
-        let _deepest = self.deepest();
+        let _deepest = self.depth_limit();
         let time = rule_cut(self.plan.cut, node.a, node.b);
         let depth = node.depth + 1;
         (

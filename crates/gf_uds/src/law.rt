@@ -11,7 +11,8 @@ pub trait Law {
     /// them.
     ghost scalar: { Self → Scalar };
 
-    /// Returns what is known of the scalar over the times from `a` to `b`.
+    /// Returns the bounds that the law knows of its scalar over the times from `a` to `b`: of its values, and of its
+    /// changes from each of these times to the next.
     fn reach(&self, a: i64, b: i64) -> Reach
         requires from { (scalar self.now).first ≤ℤ a }
         requires ordered { a ≤ℤ b }
@@ -23,7 +24,8 @@ pub trait Law {
     ghost keeps: { (law : Self) → KeepsReach (scalar law) };
 }
 
-/// States that what a law tells of its scalar holds for it.
+/// States that the bounds that a law's `reach` returns hold for its scalar: each value and each change from a time to
+/// the next lies between them. The call does nothing when it runs.
 pub fn law_holds<L: Law>(law: &L)
     ensures { KeepsReach (L.scalar law.now) }
 {}

@@ -9,18 +9,19 @@ use crate::quad::Quad;
 use crate::squares::Bound;
 use spec_scalars::Reach;
 
-// Returns what is known of a polynomial from `a` to a later time `b`. Its changes lie between the first and the last
-// of them, since they are linear in the time.
-fn wide_reach(quad: &Quad, a: i128, b: i128) -> Reach
+// Returns the bounds of a polynomial's values from time `a` to a later time `b`, and of its steps, the changes from
+// each of these times to the next. The steps are linear in the time, so they lie between the first and the last of
+// them.
+fn reach_of_span(quad: &Quad, a: i128, b: i128) -> Reach
     requires first { unsigned_abs a ≤ MAX_TIME }
     requires last { unsigned_abs b ≤ MAX_TIME }
     requires later { int_lt a b ≡ true }
     ensures { result ≡ quad_reach quad.now a b }
 {
-    let (first, last) = (quad.step(a), quad.step(b - 1));
+    let (first, last) = (quad.step_at(a), quad.step_at(b - 1));
     Reach {
-        lo: quad.bound(Bound::Low, a, b),
-        hi: quad.bound(Bound::High, a, b),
+        lo: quad.bound_over(Bound::Low, a, b),
+        hi: quad.bound_over(Bound::High, a, b),
         step_lo: first.min(last),
         step_hi: first.max(last),
     }
@@ -29,15 +30,16 @@ fn wide_reach(quad: &Quad, a: i128, b: i128) -> Reach
 impl Law for Quad {
     ghost scalar = { λ k. quad_scalar k };
 
-    // Returns what is known of the polynomial from `a` to `b`. At a single time there is no change.
+    // Returns the bounds of the polynomial's values from time `a` to `b`, and of its steps, the changes from each of
+    // these times to the next. A single time has no step, and both bounds of its steps are 0.
     fn reach(&self, a: i64, b: i64) -> Reach {
         let (a, b) = (i128::from(a), i128::from(b));
         if a < b {
-            wide_reach(self, a, b)
+            reach_of_span(self, a, b)
         } else {
             Reach {
-                lo: self.bound(Bound::Low, a, b),
-                hi: self.bound(Bound::High, a, b),
+                lo: self.bound_over(Bound::Low, a, b),
+                hi: self.bound_over(Bound::High, a, b),
                 step_lo: 0,
                 step_hi: 0,
             }

@@ -20,7 +20,8 @@ pub struct Scalar<L: Law + Drop> {
 }
 
 impl<L: Law + Drop> Scalar<L> {
-    /// Makes the scalar of a law over the times from `first` to `last`.
+    /// Makes the scalar that has a law's values at the times from `first` to `last`, both at most 2^50 in magnitude.
+    /// The law has to know these times.
     pub fn new(law: L, first: i64, last: i64) -> Scalar<L>
         requires from { (L.scalar law).first ≤ℤ first }
         requires to { last ≤ℤ (L.scalar law).last }
@@ -33,7 +34,8 @@ impl<L: Law + Drop> Scalar<L> {
         Scalar { law, first, last }
     }
 
-    /// Returns what is known of the scalar over the times from `a` to `b`.
+    /// Returns the bounds that the scalar's law knows over the times from `a` to `b`: of its values, and of its changes
+    /// from each of these times to the next.
     pub fn reach(&self, a: i64, b: i64) -> Reach
         requires from { self.now.first ≤ℤ a }
         requires ordered { a ≤ℤ b }

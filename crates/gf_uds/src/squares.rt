@@ -4,7 +4,8 @@ ghost use Rattle.spec_scalars.specs.declared.limits.TheConstants.{MAX_FACTOR, MA
 ghost use Rattle.spec_scalars.specs.Quads.{greatest_square, least_square};
 ghost use Rattle.gf_uds.specs.Bounds.{outer};
 
-// Returns the product of a factor and a number of at most the square of a time.
+// Multiplies a factor p or q of a polynomial by a time or by the square of one. The product is at most 2^100 in
+// magnitude, so 128 bits hold it and the sums that are made of it.
 fn product(factor: i128, number: i128) -> i128
     requires factor { unsigned_abs factor ≤ MAX_FACTOR }
     requires number { unsigned_abs number ≤ 2 ^ 80 }
@@ -14,7 +15,7 @@ fn product(factor: i128, number: i128) -> i128
     factor * number
 }
 
-/// Returns the sum of two numbers.
+/// Adds two terms of a polynomial. The sum is at most 2^111 in magnitude, so 128 bits hold it.
 pub(crate) fn sum(x: i128, y: i128) -> i128
     requires x { unsigned_abs x ≤ 2 ^ 110 }
     requires y { unsigned_abs y ≤ 2 ^ 100 }
@@ -31,8 +32,8 @@ pub(crate) enum Bound {
     High,
 }
 
-// Returns the lesser of two numbers for a bound from below, the greater for one from above.
-fn outer(bound: Bound, x: i128, y: i128) -> i128
+// Returns the lesser of two numbers for `Bound::Low`, and the greater for `Bound::High`.
+fn lesser_or_greater(bound: Bound, x: i128, y: i128) -> i128
     requires x { unsigned_abs x ≤ 2 ^ 100 }
     requires y { unsigned_abs y ≤ 2 ^ 100 }
     ensures value { result ≡ outer bound x y }
@@ -44,7 +45,8 @@ fn outer(bound: Bound, x: i128, y: i128) -> i128
     }
 }
 
-/// Returns the bound of the products of a factor with all numbers between two others.
+/// Returns a bound of the products of a factor with the numbers from `one` to `other`, in either order: the least
+/// product for `Bound::Low`, the greatest for `Bound::High`. It is the product with one of these two.
 pub(crate) fn product_bound(bound: Bound, factor: i128, one: i128, other: i128) -> i128
     requires factor { unsigned_abs factor ≤ MAX_FACTOR }
     requires one { unsigned_abs one ≤ 2 ^ 80 }
@@ -52,10 +54,10 @@ pub(crate) fn product_bound(bound: Bound, factor: i128, one: i128, other: i128) 
     ensures value { result ≡ outer bound (factor *ℤ one) (factor *ℤ other) }
     ensures small { unsigned_abs result ≤ 2 ^ 100 }
 {
-    outer(bound, product(factor, one), product(factor, other))
+    lesser_or_greater(bound, product(factor, one), product(factor, other))
 }
 
-// Returns the square of a time.
+// Returns the square of a time of at most 2^40 in magnitude. The square is at most 2^80.
 fn square(t: i128) -> i128
     requires { unsigned_abs t ≤ MAX_TIME }
     ensures value { result ≡ t *ℤ t }
@@ -64,29 +66,29 @@ fn square(t: i128) -> i128
     t * t
 }
 
-// Tells whether 0 lies from `a` to `b`.
-fn hold_zero(a: i128, b: i128) -> bool
+// Tells whether 0 is one of the times from `a` to `b`, both included.
+fn is_zero_between(a: i128, b: i128) -> bool
     ensures { result ≡ (int_le a (pos 0) && int_le (pos 0) b) }
 {
     a <= 0 && 0 <= b
 }
 
-/// Returns the least square of the times from `a` to `b`, which is 0 where 0 is one of them.
-pub(crate) fn least_square(a: i128, b: i128) -> i128
+/// Returns the least of the squares of the times from `a` to `b`: 0 if 0 is one of them, else the square of an end.
+pub(crate) fn min_square_between(a: i128, b: i128) -> i128
     requires first { unsigned_abs a ≤ MAX_TIME }
     requires last { unsigned_abs b ≤ MAX_TIME }
     ensures value { result ≡ least_square a b }
     ensures small { unsigned_abs result ≤ 2 ^ 80 }
 {
-    if hold_zero(a, b) {
+    if is_zero_between(a, b) {
         0
     } else {
         square(a).min(square(b))
     }
 }
 
-/// Returns the greatest square of the times from `a` to `b`.
-pub(crate) fn greatest_square(a: i128, b: i128) -> i128
+/// Returns the greatest of the squares of the times from `a` to `b`, which is the square of `a` or of `b`.
+pub(crate) fn max_square_between(a: i128, b: i128) -> i128
     requires first { unsigned_abs a ≤ MAX_TIME }
     requires last { unsigned_abs b ≤ MAX_TIME }
     ensures value { result ≡ greatest_square a b }
@@ -95,8 +97,8 @@ pub(crate) fn greatest_square(a: i128, b: i128) -> i128
     square(a).max(square(b))
 }
 
-// Returns by how much the square of the next time is greater: `2 t + 1`.
-fn odd(t: i128) -> i128
+// Returns the change of the square of the time from `t` to `t + 1`, which is `2 t + 1`.
+fn square_step(t: i128) -> i128
     requires { unsigned_abs t ≤ MAX_TIME }
     ensures value { result ≡ pos 2 *ℤ t +ℤ pos 1 }
     ensures small { unsigned_abs result ≤ 2 ^ 80 }
@@ -104,12 +106,12 @@ fn odd(t: i128) -> i128
     2 * t + 1
 }
 
-/// Returns the change of p t^2 + q t from a time to the next.
-pub(crate) fn step(p: i128, q: i128, t: i128) -> i128
+/// Returns the change of p t^2 + q t from time `t` to `t + 1`.
+pub(crate) fn quadratic_step(p: i128, q: i128, t: i128) -> i128
     requires p { unsigned_abs p ≤ MAX_FACTOR }
     requires q { unsigned_abs q ≤ MAX_FACTOR }
     requires time { unsigned_abs t ≤ MAX_TIME }
     ensures { result ≡ p *ℤ (pos 2 *ℤ t +ℤ pos 1) +ℤ q }
 {
-    sum(product(p, odd(t)), q)
+    sum(product(p, square_step(t)), q)
 }

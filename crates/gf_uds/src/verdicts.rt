@@ -10,7 +10,7 @@ use halving::{Node, Verdict};
 use spec_intervals::Sign;
 use spec_scalars::{Plan, Reach};
 
-/// Returns the sign of all numbers between the bounds of a reach, as far as they have one.
+/// Returns the sign that all values within the bounds have: `Yes` if none is below 0, `No` if all are, else `Open`.
 pub(crate) fn reach_sign(reach: Reach) -> Sign
     ensures { result ≡ reach_sign reach }
 {
@@ -23,8 +23,8 @@ pub(crate) fn reach_sign(reach: Reach) -> Sign
     }
 }
 
-// Returns the bounds of the changes of a reach.
-fn steps(reach: Reach) -> Steps
+// Returns the part of a scalar's bounds that bounds its change from each time to the next.
+fn step_bounds(reach: Reach) -> Steps
     ensures { result ≡ record { lo = reach.step_lo; hi = reach.step_hi } }
 {
     Steps {
@@ -33,15 +33,16 @@ fn steps(reach: Reach) -> Steps
     }
 }
 
-/// Tells whether what is known over a whole node shows that it has no turn that is wanted.
+/// Tells whether `whole`, the bounds of the scalar over a whole node, shows that the scalar nowhere in the node passes
+/// 0 in a direction that the plan wants.
 pub(crate) fn is_turnless(plan: Plan, whole: Reach) -> bool
     ensures { result ≡ is_turnless_by plan whole }
 {
-    gf_hooks::is_turnless(plan.dir, reach_sign(whole), steps(whole))
+    gf_hooks::is_turnless(plan.dir, reach_sign(whole), step_bounds(whole))
 }
 
-// Tells whether a node has more than one time after its first.
-fn is_wide(node: Node) -> bool
+// Tells whether a node is wider than one time, so that a time lies strictly between its ends.
+fn is_wider_than_one(node: Node) -> bool
     requires inside { node.a <ℤ node.b }
     requires early { neg_ℤ (pos (2 ^ 50)) ≤ℤ node.a }
     requires late { node.b ≤ℤ pos (2 ^ 50) }
@@ -50,20 +51,20 @@ fn is_wide(node: Node) -> bool
     node.b - node.a > 1
 }
 
-/// Tells whether the signs at a node's ends decide which turns lie between them: it has one time after its first, or
-/// the scalar does not turn back.
-pub(crate) fn is_steady(node: Node, whole: Reach) -> bool
+/// Tells whether the scalar's signs at a node's two ends decide how often it passes 0 between them. They do if the node
+/// has only one time after its first, and if its bounds `whole` show that the scalar only rises or only falls.
+pub(crate) fn is_decided_by_ends(node: Node, whole: Reach) -> bool
     requires inside { node.a <ℤ node.b }
     requires early { neg_ℤ (pos (2 ^ 50)) ≤ℤ node.a }
     requires late { node.b ≤ℤ pos (2 ^ 50) }
     ensures { result ≡ is_steady_by node whole }
 {
-    !is_wide(node) || is_one_way(steps(whole))
+    !is_wider_than_one(node) || is_one_way(step_bounds(whole))
 }
 
-/// Returns the verdict of a node that nothing decides: it is split where it is above both limits, the width and the
-/// depth, and else undecided.
-pub(crate) fn limit_verdict(plan: Plan, node: Node) -> Verdict
+/// Returns the verdict of a node of which neither the bounds nor the signs at the ends decide. It is split if it is
+/// wider than the plan's width and less deep than its depth, and else undecided.
+pub(crate) fn verdict_by_limits(plan: Plan, node: Node) -> Verdict
     requires inside { node.a <ℤ node.b }
     requires early { neg_ℤ (pos (2 ^ 50)) ≤ℤ node.a }
     requires late { node.b ≤ℤ pos (2 ^ 50) }
@@ -76,8 +77,10 @@ pub(crate) fn limit_verdict(plan: Plan, node: Node) -> Verdict
     }
 }
 
-/// Returns the verdict of a node by the signs at its ends, where these decide which turns lie between them.
-pub(crate) fn end_verdict(plan: Plan, node: Node, first: Sign, last: Sign) -> Verdict
+/// Returns the verdict of a node by the scalar's signs at its two ends, if they decide how it passes 0 between them.
+/// The node is clear if they show no wanted turn. It is one event if they differ and the node is no wider than the
+/// plan's width. Else it is split, or undecided at the limits of width and depth.
+pub(crate) fn verdict_by_ends(plan: Plan, node: Node, first: Sign, last: Sign) -> Verdict
     requires inside { node.a <ℤ node.b }
     requires early { neg_ℤ (pos (2 ^ 50)) ≤ℤ node.a }
     requires late { node.b ≤ℤ pos (2 ^ 50) }
@@ -88,6 +91,6 @@ pub(crate) fn end_verdict(plan: Plan, node: Node, first: Sign, last: Sign) -> Ve
     } else if node.b.abs_diff(node.a) <= plan.width && differ(plan.dir, first, last) {
         Verdict::One(turn_to(last))
     } else {
-        limit_verdict(plan, node)
+        verdict_by_limits(plan, node)
     }
 }

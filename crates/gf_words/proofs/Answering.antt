@@ -125,11 +125,7 @@ refused_by rules known words result same refused =
 
 -- ---- what is asked of a search
 
-pub search_asks : (request : FindAsk → Result Request WordFault) (found : Result FindAsk WordFault) (find : FindAsk)
-    (result : Result Request WordFault) → found ≡ Ok find → Answers (request find) result → Answers (of_search request found) result
-search_asks request found find result is answers = answers_along _ _ result (sym (ap (of_search request) is)) answers
-
-pub search_fails : (request : FindAsk → Result Request WordFault) (found : Result FindAsk WordFault) (fault : WordFault)
+search_fails : (request : FindAsk → Result Request WordFault) (found : Result FindAsk WordFault) (fault : WordFault)
     → (fault ≡ Memory) ⊎ (found ≡ Err fault) → (fault ≡ Memory) ⊎ (of_search request found ≡ Err fault)
 search_fails request found fault (inl memory) = inl memory
 search_fails request found fault (inr is) = inr (ap (of_search request) is)

@@ -370,12 +370,6 @@ search_bad values files kind target last option known last_is read =
     let is = ap (λ (l : Result (Option Dir) Named). search_read l values kind target) last_is ∙ search_is_read values kind target known in
     option_bad kind_of (bad_option values) values files kind target _ option _ known is read
 
-pub search_unknown : (values : Values) (files : List Text) (option : Named)
-    → Err option ≡ pair (needed kind_of opt.Kind (values opt.Kind)) (needed target_of opt.Target (values opt.Target))
-    → search_by values files ≡ Err (BadValue option)
-unfolding search_by
-search_unknown values files = not_known kind_of (bad_option values) values files
-
 -- and of a set
 pub set_found : (values : Values) (files : List Text) (kind : Kind) (target : Body) (last : Result References Named)
     (search : SearchOptions) (references : References) → AreKnown set_kind_of values kind target
@@ -395,12 +389,6 @@ unfolding set_search_by
 set_bad values files kind target last option known last_is read =
     let is = ap (λ (l : Result References Named). search_read l values kind target) last_is ∙ set_is_read values kind target known in
     option_bad set_kind_of (bad_in_set values) values files kind target _ option _ known is read
-
-pub set_unknown : (values : Values) (files : List Text) (option : Named)
-    → Err option ≡ pair (needed set_kind_of opt.Kind (values opt.Kind)) (needed target_of opt.Target (values opt.Target))
-    → set_search_by values files ≡ Err (BadValue option)
-unfolding set_search_by
-set_unknown values files = not_known set_kind_of (bad_in_set values) values files
 
 -- ---- scalars
 

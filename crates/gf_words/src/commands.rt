@@ -18,8 +18,8 @@ pub(crate) enum Role {
     Word,
 }
 
-// Returns the command with one more rule for `clap`: a named option with a value, or a required word. The only error
-// is out of memory.
+// Returns a command with one more rule for `clap`, by the option's role: an option with a value, or a required word in
+// a fixed place. The only error is out of memory.
 fn with_option<'a>(
     alloc: Global,
     command: Command<'a>,
@@ -36,7 +36,8 @@ fn with_option<'a>(
     }
 }
 
-// Returns the command with a rule for each of the options, in their order. The only error is out of memory.
+// Returns a command with a rule for each of the options, in their order, all in the same role. The only error is out of
+// memory.
 fn with_options<'a>(
     alloc: Global,
     mut command: Command<'a>,
@@ -52,7 +53,7 @@ fn with_options<'a>(
     Ok(command)
 }
 
-// Returns the command with the rule of its files, of which there is at least one. The only error is out of memory.
+// Returns a command with the rule that names of files follow, at least one. The only error is out of memory.
 fn with_files<'a>(alloc: Global, command: Command<'a>) -> Result<Command<'a>, AllocError>
     ensures { IfOk result (λ more.
         app_of more ≡ with_rules (files_rule ∷ []) (app_of command.entry)) }
@@ -64,15 +65,15 @@ fn with_files<'a>(alloc: Global, command: Command<'a>) -> Result<Command<'a>, Al
 }
 
 // Returns a command of this name without rules, and without the option `help` that `clap` adds by itself.
-fn without_help<'a>(alloc: Global, name: &'a str) -> Command<'a>
+fn bare_command<'a>(alloc: Global, name: &'a str) -> Command<'a>
     ensures { app_of result ≡ command_with name.entry.now [] }
 {
     Command::new(alloc, name).disable_help_flag(true)
 }
 
-// Returns the options that a command reads, but for the certificate of `verify`, which `last_options` adds after
-// them.
-fn first_options(name: CommandName) -> &'static [Named]
+// Returns the options that a command reads, in the order of their rules. That of `verify` that names the certificate is
+// left out, since `command_with_rules` adds it last.
+fn options_but_certificate(name: CommandName) -> &'static [Named]
     ensures { options_of name ≡ result.now ++ last_options name }
 {
     match name {
@@ -84,8 +85,8 @@ fn first_options(name: CommandName) -> &'static [Named]
     }
 }
 
-// Returns the option of `verify` that names the certificate, and none for any other command.
-fn last_options(name: CommandName) -> &'static [Named]
+// Returns the option that names the certificate for the command `verify`, and none for any other command.
+fn certificate_options(name: CommandName) -> &'static [Named]
     ensures { result.now ≡ last_options name }
 {
     if matches!(name, CommandName::Verify) {
@@ -95,14 +96,14 @@ fn last_options(name: CommandName) -> &'static [Named]
     }
 }
 
-// Tells whether a command reads files. Only `gen` and `scalar` do not.
+// Tells whether a command reads files. All do but `gen` and `scalar`.
 fn reads_files(name: CommandName) -> bool
     ensures { result ≡ reads_files name }
 {
     !matches!(name, CommandName::Gen | CommandName::Scalar)
 }
 
-// Returns the words that a command without files reads in fixed places: those of `gen`, and none for `scalar`.
+// Returns the words that a command without files reads in fixed places: three for `gen`, and none for `scalar`.
 fn fixed_words(name: CommandName) -> &'static [Named]
     ensures { result.now ≡ words_of name }
 {
@@ -113,7 +114,8 @@ fn fixed_words(name: CommandName) -> &'static [Named]
     }
 }
 
-// Returns the command with the rules of what follows its options: files, the words of `gen`, or nothing.
+// Returns a command with the rules of what follows its options: files, the words of `gen`, or nothing. The only error
+// is out of memory.
 fn with_arguments<'a>(
     alloc: Global,
     command: Command<'a>,
@@ -129,14 +131,17 @@ fn with_arguments<'a>(
     }
 }
 
-/// Returns the rules by which `clap` reads this command: its options, then its files or words. The only error is out
-/// of memory.
-pub(crate) fn command<'a>(alloc: Global, name: CommandName) -> Result<Command<'a>, AllocError>
+/// Returns a command with the rules by which `clap` reads it: its options, then its files or words. The only error is
+/// out of memory.
+pub(crate) fn command_with_rules<'a>(
+    alloc: Global,
+    name: CommandName,
+) -> Result<Command<'a>, AllocError>
     ensures { IfOk result (λ command. app_of command ≡ command_rules name) }
 {
     let text: &'a str = command_name(name);
-    let command = without_help(alloc, text);
-    let command = with_options(alloc, command, Role::Option, first_options(name))?;
-    let command = with_options(alloc, command, Role::Option, last_options(name))?;
+    let command = bare_command(alloc, text);
+    let command = with_options(alloc, command, Role::Option, options_but_certificate(name))?;
+    let command = with_options(alloc, command, Role::Option, certificate_options(name))?;
     with_arguments(alloc, command, name)
 }

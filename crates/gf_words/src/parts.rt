@@ -1,5 +1,5 @@
 // Readers of single options: each returns what the option's word stands for, or names the option as bad. An option is
-// bad where it is needed and left out, is not used by the kind and given, or has a word that cannot be read.
+// bad if it is needed and left out, is not used by the kind and given, or has a word that cannot be read.
 ghost use Rattle.std.specs.Prelude.{◌≡◌, option_and_then};
 ghost use Rattle.spec_kinds.specs.declared.table.Use.TheVariants.{Optional};
 ghost use Rattle.spec_requests.specs.declared.request.Named.TheVariants as opt;
@@ -11,7 +11,7 @@ ghost use Rattle.gf_words.specs.Polynomials.{polynomial_of};
 ghost use Rattle.gf_words.specs.Readings.{text_in, values_of};
 
 use crate::polynomials::{self, Polynomial};
-use crate::readings::value;
+use crate::readings::given_word;
 use crate::{forms, relations};
 use clap::ArgMatches;
 use spec_bodies::Frame;
@@ -22,9 +22,13 @@ use spec_requests::{DEFAULT_TICK, Named, Relation};
 use spec_text::Decimal;
 use spec_trees::CutRule;
 
-// Checks an option that has a word. The option is bad where the word could not be read (`None`) or the kind does not
-// use it.
-fn check_given<T: Copy>(option: Named, usage: Use, read: Option<T>) -> Result<Option<T>, Named>
+// Returns the value of an option that was given. The option is bad if its word could not be read (`None`), or if the
+// kind of event does not use it.
+fn check_given_option<T: Copy>(
+    option: Named,
+    usage: Use,
+    read: Option<T>,
+) -> Result<Option<T>, Named>
     ensures { result ≡ used option usage read }
 {
     match read {
@@ -37,8 +41,8 @@ fn check_given<T: Copy>(option: Named, usage: Use, read: Option<T>) -> Result<Op
     }
 }
 
-// Checks an option that was left out. It is bad where the kind needs it, and else has no value.
-fn check_left_out<T: Copy>(option: Named, usage: Use) -> Result<Option<T>, Named>
+// Returns no value for an option that was left out. The option is bad if the kind of event needs it.
+fn check_left_out_option<T: Copy>(option: Named, usage: Use) -> Result<Option<T>, Named>
     ensures { result ≡ left_out option usage }
 {
     match usage {
@@ -48,9 +52,9 @@ fn check_left_out<T: Copy>(option: Named, usage: Use) -> Result<Option<T>, Named
     }
 }
 
-// Checks an option against its usage. The outer `None` says that it was left out, the inner one that its word could
-// not be read.
-fn check_use<T: Copy>(
+// Returns the value of an option, or names it as bad if `usage`, which says how the kind of event uses it, does not
+// allow this. The outer `None` says that it was left out, the inner one that its word could not be read.
+fn check_option_use<T: Copy>(
     option: Named,
     usage: Use,
     read: Option<Option<T>>,
@@ -58,13 +62,14 @@ fn check_use<T: Copy>(
     ensures { result ≡ by_use option usage read }
 {
     match read {
-        Some(value) => check_given(option, usage, value),
-        None => check_left_out(option, usage),
+        Some(value) => check_given_option(option, usage, value),
+        None => check_left_out_option(option, usage),
     }
 }
 
-// Returns the value of an option that every command line needs. It is bad where it was left out or could not be read.
-fn require<T: Copy>(option: Named, read: Option<T>) -> Result<T, Named>
+// Returns the value of an option that is always needed. The option is bad if `read` is `None`: it was left out, or its
+// word could not be read.
+fn required_value<T: Copy>(option: Named, read: Option<T>) -> Result<T, Named>
     ensures { result ≡ required option read }
 {
     match read {
@@ -73,112 +78,123 @@ fn require<T: Copy>(option: Named, read: Option<T>) -> Result<T, Named>
     }
 }
 
-/// Reads the kind of event of a search, which is needed.
-pub(crate) fn kind(matches: &ArgMatches<'_>) -> Result<Kind, Named>
+/// Reads the option that names the kind of event, which is needed. The error names the option as bad.
+pub(crate) fn kind_option(matches: &ArgMatches<'_>) -> Result<Kind, Named>
     ensures { result ≡ needed kind_of opt.Kind (values_of matches.now opt.Kind) }
 {
-    let read = value(matches, Named::Kind).and_then(forms::kind);
-    require(Named::Kind, read)
+    let read = given_word(matches, Named::Kind).and_then(forms::kind_named);
+    required_value(Named::Kind, read)
 }
 
-// Reads the kind of a set, which is needed. Kinds with a condition beside their function are bad: they have no sets.
-pub(crate) fn set_kind(matches: &ArgMatches<'_>) -> Result<Kind, Named>
+/// Reads the option that names the kind of event of a set, which is needed. The option is bad for a kind of which no
+/// sets can be made, as one with a condition beside its function.
+pub(crate) fn set_kind_option(matches: &ArgMatches<'_>) -> Result<Kind, Named>
     ensures { result ≡ needed set_kind_of opt.Kind (values_of matches.now opt.Kind) }
 {
-    let read = value(matches, Named::Kind).and_then(relations::kind);
-    require(Named::Kind, read)
+    let read = given_word(matches, Named::Kind).and_then(relations::set_kind_named);
+    required_value(Named::Kind, read)
 }
 
-/// Reads the body that is looked at, which is needed. The barycentre of the solar system is bad.
-pub(crate) fn target(matches: &ArgMatches<'_>) -> Result<Body, Named>
+/// Reads the option that names the target, which is needed. The option is bad for the barycentre of the solar system.
+pub(crate) fn target_option(matches: &ArgMatches<'_>) -> Result<Body, Named>
     ensures { result ≡ needed target_of opt.Target (values_of matches.now opt.Target) }
 {
-    let read = value(matches, Named::Target).and_then(forms::target);
-    require(Named::Target, read)
+    let read = given_word(matches, Named::Target).and_then(forms::target_named);
+    required_value(Named::Target, read)
 }
 
-/// Reads the second body, as far as the kind uses one. The barycentre of the solar system is bad.
-pub(crate) fn second_body(matches: &ArgMatches<'_>, usage: Use) -> Result<Option<Body>, Named>
+/// Reads the option that names the second body, which `usage` needs, allows or forbids. The option is bad for the
+/// barycentre of the solar system.
+pub(crate) fn second_body_option(
+    matches: &ArgMatches<'_>,
+    usage: Use,
+) -> Result<Option<Body>, Named>
     ensures { result ≡ part target_of opt.Second usage (values_of matches.now opt.Second) }
 {
-    let read = value(matches, Named::Second).map(forms::target);
-    check_use(Named::Second, usage, read)
+    let read = given_word(matches, Named::Second).map(forms::target_named);
+    check_option_use(Named::Second, usage, read)
 }
 
-/// Reads the observer, which may be left out. Any body may be one.
-pub(crate) fn observer(matches: &ArgMatches<'_>) -> Result<Option<Body>, Named>
+/// Reads the option that names the observer, or returns none if it is left out. Any body may be the observer.
+pub(crate) fn observer_option(matches: &ArgMatches<'_>) -> Result<Option<Body>, Named>
     ensures { result ≡ part observer_of opt.Observer Optional (values_of matches.now opt.Observer) }
 {
-    let read = value(matches, Named::Observer).map(forms::observer);
-    check_use(Named::Observer, Use::Optional, read)
+    let read = given_word(matches, Named::Observer).map(forms::body_named);
+    check_option_use(Named::Observer, Use::Optional, read)
 }
 
-/// Reads the frame, as far as the kind uses one.
-pub(crate) fn frame(matches: &ArgMatches<'_>, usage: Use) -> Result<Option<Frame>, Named>
+/// Reads the option that names the frame, which `usage` needs, allows or forbids. The error names the option as bad.
+pub(crate) fn frame_option(matches: &ArgMatches<'_>, usage: Use) -> Result<Option<Frame>, Named>
     ensures { result ≡ part frame_of opt.Frame usage (values_of matches.now opt.Frame) }
 {
-    let read = value(matches, Named::Frame).map(forms::frame);
-    check_use(Named::Frame, usage, read)
+    let read = given_word(matches, Named::Frame).map(forms::frame_named);
+    check_option_use(Named::Frame, usage, read)
 }
 
-/// Reads the axis of a coordinate, 0 to 2, as far as the kind uses one.
-pub(crate) fn axis(matches: &ArgMatches<'_>, usage: Use) -> Result<Option<u8>, Named>
+/// Reads the option that names the axis of a coordinate, 0 to 2, which `usage` needs, allows or forbids. The error
+/// names the option as bad.
+pub(crate) fn axis_option(matches: &ArgMatches<'_>, usage: Use) -> Result<Option<u8>, Named>
     ensures { result ≡ part axis_of opt.Axis usage (values_of matches.now opt.Axis) }
 {
-    let read = value(matches, Named::Axis).map(forms::axis);
-    check_use(Named::Axis, usage, read)
+    let read = given_word(matches, Named::Axis).map(forms::axis_named);
+    check_option_use(Named::Axis, usage, read)
 }
 
-// Reads a decimal number of the event, which is a reference value or a radius, as far as the kind uses it.
-pub(crate) fn number(
+/// Reads an option that is a decimal number, as a reference value or a radius, which `usage` needs, allows or forbids.
+/// The error names the option as bad.
+pub(crate) fn decimal_option(
     matches: &ArgMatches<'_>,
     option: Named,
     usage: Use,
 ) -> Result<Option<Decimal>, Named>
     ensures { result ≡ part decimal_of option usage (values_of matches.now option) }
 {
-    let read = value(matches, option).map(forms::decimal);
-    check_use(option, usage, read)
+    let read = given_word(matches, option).map(forms::read_exact_decimal);
+    check_option_use(option, usage, read)
 }
 
-// Reads the relation of a set, which is needed. A relation to two references is bad for a kind without references.
-pub(crate) fn relation(matches: &ArgMatches<'_>, kind: Kind) -> Result<Relation, Named>
+/// Reads the option that names the relation of a set, which is needed. The option is bad if the relation has two
+/// references and the kind of event has none.
+pub(crate) fn relation_option(matches: &ArgMatches<'_>, kind: Kind) -> Result<Relation, Named>
     ensures { result ≡ needed (relation_for kind) opt.Relation (values_of matches.now opt.Relation) }
 {
-    match value(matches, Named::Relation) {
-        Some(word) => require(Named::Relation, relations::relation(kind, word)),
-        None => require(Named::Relation, None),
+    match given_word(matches, Named::Relation) {
+        Some(word) => required_value(Named::Relation, relations::relation_of_kind(kind, word)),
+        None => required_value(Named::Relation, None),
     }
 }
 
-/// Reads the direction of the events that are wanted, which may be left out.
-pub(crate) fn dir(matches: &ArgMatches<'_>) -> Result<Option<Dir>, Named>
+/// Reads the option that names the direction of the wanted events, or returns none if it is left out. The error names
+/// the option as bad.
+pub(crate) fn direction_option(matches: &ArgMatches<'_>) -> Result<Option<Dir>, Named>
     ensures { result ≡ part dir_of opt.Dir Optional (values_of matches.now opt.Dir) }
 {
-    let read = value(matches, Named::Dir).map(forms::dir);
-    check_use(Named::Dir, Use::Optional, read)
+    let read = given_word(matches, Named::Dir).map(forms::direction_named);
+    check_option_use(Named::Dir, Use::Optional, read)
 }
 
-// Reads the number of ticks in a second, which may be left out.
-pub(crate) fn tick(matches: &ArgMatches<'_>) -> Result<Option<u32>, Named>
+/// Reads the option that says how many ticks a second has, 1 or 1,000, or returns none if it is left out. The error
+/// names the option as bad.
+pub(crate) fn ticks_option(matches: &ArgMatches<'_>) -> Result<Option<u32>, Named>
     ensures { result ≡ part tick_of_word opt.Tick Optional (values_of matches.now opt.Tick) }
 {
-    let read = value(matches, Named::Tick).map(forms::tick);
-    check_use(Named::Tick, Use::Optional, read)
+    let read = given_word(matches, Named::Tick).map(forms::ticks_named);
+    check_option_use(Named::Tick, Use::Optional, read)
 }
 
-// Returns the number of ticks in a second by which the times of the command line are read: 1 where the option is left
-// out or bad. A bad option is reported by `tick`, so this call has no fault.
-pub(crate) fn tick_in(matches: &ArgMatches<'_>) -> u32
+/// Returns the ticks of a second by which times are read: 1 if the option is left out or bad. That it is bad is no
+/// fault here, since `ticks_option` reports it.
+pub(crate) fn ticks_or_default(matches: &ArgMatches<'_>) -> u32
     ensures { result ≡ tick_in (values_of matches.now) }
 {
-    value(matches, Named::Tick)
-        .and_then(forms::tick)
+    given_word(matches, Named::Tick)
+        .and_then(forms::ticks_named)
         .unwrap_or(DEFAULT_TICK)
 }
 
-// Reads the first or last time of the span, in ticks since J2000 in TDB. It may be left out.
-pub(crate) fn instant(
+/// Reads an option that is the first or the last time of the span, in ticks since J2000 in TDB, or returns none if it
+/// is left out. A second has `tick` ticks. The error names the option as bad.
+pub(crate) fn instant_option(
     matches: &ArgMatches<'_>,
     option: Named,
     tick: u32,
@@ -186,97 +202,106 @@ pub(crate) fn instant(
     requires { IsTick tick }
     ensures { result ≡ part (instant_of tick) option Optional (values_of matches.now option) }
 {
-    match value(matches, option) {
-        Some(word) => check_use(option, Use::Optional, Some(forms::instant(word, tick))),
-        None => check_use(option, Use::Optional, None),
+    match given_word(matches, option) {
+        Some(word) => check_option_use(
+            option,
+            Use::Optional,
+            Some(forms::read_instant(word, tick)),
+        ),
+        None => check_option_use(option, Use::Optional, None),
     }
 }
 
-/// Reads the width of the search in ticks, which may be left out.
-pub(crate) fn width(matches: &ArgMatches<'_>) -> Result<Option<u32>, Named>
+/// Reads the option that limits the width of a window, in ticks, or returns none if it is left out. The error names the
+/// option as bad.
+pub(crate) fn width_option(matches: &ArgMatches<'_>) -> Result<Option<u32>, Named>
     ensures { result ≡ part width_of opt.Width Optional (values_of matches.now opt.Width) }
 {
-    let read = value(matches, Named::Width).map(forms::width);
-    check_use(Named::Width, Use::Optional, read)
+    let read = given_word(matches, Named::Width).map(forms::read_width);
+    check_option_use(Named::Width, Use::Optional, read)
 }
 
-/// Reads the depth of the search, which may be left out.
-pub(crate) fn depth(matches: &ArgMatches<'_>) -> Result<Option<u32>, Named>
+/// Reads the option that limits the depth of the search, or returns none if it is left out. The error names the option
+/// as bad.
+pub(crate) fn depth_option(matches: &ArgMatches<'_>) -> Result<Option<u32>, Named>
     ensures { result ≡ part depth_of opt.Depth Optional (values_of matches.now opt.Depth) }
 {
-    let read = value(matches, Named::Depth).map(forms::depth);
-    check_use(Named::Depth, Use::Optional, read)
+    let read = given_word(matches, Named::Depth).map(forms::read_depth);
+    check_option_use(Named::Depth, Use::Optional, read)
 }
 
-/// Reads the number of workers, which may be left out.
-pub(crate) fn workers(matches: &ArgMatches<'_>) -> Result<Option<u32>, Named>
+/// Reads the option that says how many workers search, or returns none if it is left out. The error names the option as
+/// bad.
+pub(crate) fn workers_option(matches: &ArgMatches<'_>) -> Result<Option<u32>, Named>
     ensures { result ≡ part workers_of opt.Workers Optional (values_of matches.now opt.Workers) }
 {
-    let read = value(matches, Named::Workers).map(forms::workers);
-    check_use(Named::Workers, Use::Optional, read)
+    let read = given_word(matches, Named::Workers).map(forms::read_worker_count);
+    check_option_use(Named::Workers, Use::Optional, read)
 }
 
-/// Reads the rule by which nodes are cut, which may be left out.
-pub(crate) fn cut(matches: &ArgMatches<'_>) -> Result<Option<CutRule>, Named>
+/// Reads the option that names the rule by which nodes are cut, or returns none if it is left out. The error names the
+/// option as bad.
+pub(crate) fn cut_rule_option(matches: &ArgMatches<'_>) -> Result<Option<CutRule>, Named>
     ensures { result ≡ part cut_of opt.Cut Optional (values_of matches.now opt.Cut) }
 {
-    let read = value(matches, Named::Cut).map(forms::cut);
-    check_use(Named::Cut, Use::Optional, read)
+    let read = given_word(matches, Named::Cut).map(forms::cut_rule_named);
+    check_option_use(Named::Cut, Use::Optional, read)
 }
 
-/// Reads the layout of a generated text, which is needed.
-pub(crate) fn layout(matches: &ArgMatches<'_>) -> Result<u16, Named>
+/// Reads the word of `gen` that names the layout of the text, which is needed. The error names the word as bad.
+pub(crate) fn layout_word(matches: &ArgMatches<'_>) -> Result<u16, Named>
     ensures { result ≡ needed layout_of opt.Layout (values_of matches.now opt.Layout) }
 {
-    let read = value(matches, Named::Layout).and_then(forms::layout);
-    require(Named::Layout, read)
+    let read = given_word(matches, Named::Layout).and_then(forms::layout_named);
+    required_value(Named::Layout, read)
 }
 
-/// Reads the number of blocks of a generated text, which is needed.
-pub(crate) fn blocks(matches: &ArgMatches<'_>) -> Result<u32, Named>
+/// Reads the word of `gen` that says how many blocks the text has, which is needed. The error names the word as bad.
+pub(crate) fn blocks_word(matches: &ArgMatches<'_>) -> Result<u32, Named>
     ensures { result ≡ needed blocks_of opt.Blocks (values_of matches.now opt.Blocks) }
 {
-    let read = value(matches, Named::Blocks).and_then(forms::blocks);
-    require(Named::Blocks, read)
+    let read = given_word(matches, Named::Blocks).and_then(forms::read_block_count);
+    required_value(Named::Blocks, read)
 }
 
-/// Reads the seed of a generated text, which is needed.
-pub(crate) fn seed(matches: &ArgMatches<'_>) -> Result<u64, Named>
+/// Reads the word of `gen` that is the seed of the text, which is needed. The error names the word as bad.
+pub(crate) fn seed_word(matches: &ArgMatches<'_>) -> Result<u64, Named>
     ensures { result ≡ needed seed_of opt.Seed (values_of matches.now opt.Seed) }
 {
-    let read = value(matches, Named::Seed).and_then(forms::seed);
-    require(Named::Seed, read)
+    let read = given_word(matches, Named::Seed).and_then(forms::read_seed);
+    required_value(Named::Seed, read)
 }
 
-/// Reads the polynomial of a scalar, which is needed.
-pub(crate) fn quad(matches: &ArgMatches<'_>) -> Result<Polynomial, Named>
+/// Reads the option that is the polynomial of `scalar`, which is needed. The error names the option as bad.
+pub(crate) fn polynomial_option(matches: &ArgMatches<'_>) -> Result<Polynomial, Named>
     ensures { result ≡ needed polynomial_of opt.Quad (values_of matches.now opt.Quad) }
 {
-    let read = value(matches, Named::Quad).and_then(polynomials::quad);
-    require(Named::Quad, read)
+    let read = given_word(matches, Named::Quad).and_then(polynomials::read_polynomial);
+    required_value(Named::Quad, read)
 }
 
-// Reads the first or last time of a scalar's span, a whole number that is needed.
-pub(crate) fn scalar_time(matches: &ArgMatches<'_>, option: Named) -> Result<i64, Named>
+/// Reads an option that is the first or the last time of the span of `scalar`, a whole number that is needed. The error
+/// names the option as bad.
+pub(crate) fn scalar_time_option(matches: &ArgMatches<'_>, option: Named) -> Result<i64, Named>
     ensures { result ≡ needed scalar_time_of option (values_of matches.now option) }
 {
-    let read = value(matches, option).and_then(polynomials::time);
-    require(option, read)
+    let read = given_word(matches, option).and_then(polynomials::read_scalar_time);
+    required_value(option, read)
 }
 
-// Returns the name of the file that holds the certificate, or none where it is left out or empty.
-pub(crate) fn cert<'a>(matches: &ArgMatches<'a>) -> Option<&'a str>
+/// Returns the name of the file that holds the certificate, or none if the option is left out or empty.
+pub(crate) fn certificate_option<'a>(matches: &ArgMatches<'a>) -> Option<&'a str>
     ensures { text_in result ≡ option_and_then name_of (values_of matches.now opt.Cert) }
 {
-    match value(matches, Named::Cert) {
-        Some(word) => forms::name(word),
+    match given_word(matches, Named::Cert) {
+        Some(word) => forms::file_name(word),
         None => None,
     }
 }
 
-/// Joins two parts, or returns the first of them that is bad. Options are joined in the order of the table, so the
-/// option that is reported is the first there.
-pub(crate) fn pair<A: Copy, B: Copy>(
+/// Joins two parts of a request that were read, or returns the first bad option of them. Parts are joined in the order
+/// of the table of options, so that the bad option that stands first there is reported.
+pub(crate) fn join_parts<A: Copy, B: Copy>(
     first: Result<A, Named>,
     second: Result<B, Named>,
 ) -> Result<(A, B), Named>

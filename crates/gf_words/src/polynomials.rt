@@ -4,7 +4,7 @@ ghost use Rattle.spec_requests.specs.Options.{at_comma, factor_of, scalar_time_o
 ghost use Rattle.spec_scalars.specs.Quads.{is_small};
 ghost use Rattle.gf_words.specs.Polynomials.{bytes_of_two, polynomial_of, polynomial_of_numbers, polynomial_of_two, small_polynomial};
 
-use crate::forms::number;
+use crate::forms::read_number;
 use spec_requests::{
     MAX_DIGITS_OF_A_FACTOR, MAX_DIGITS_OF_A_TIME, MAX_SCALAR_TIME, MAX_WRITTEN_FACTOR,
 };
@@ -19,8 +19,8 @@ pub(crate) struct Polynomial {
     pub(crate) r: i64,
 }
 
-// Returns a number as it stands, with a sign. None stays none.
-fn as_positive(number: Option<u64>) -> Option<i128>
+// Converts a number that was read to a signed one. None stays none.
+fn as_signed(number: Option<u64>) -> Option<i128>
     ensures { result ≡ option_map pos number }
 {
     match number {
@@ -29,8 +29,8 @@ fn as_positive(number: Option<u64>) -> Option<i128>
     }
 }
 
-// Returns the negative of a number. None stays none.
-fn as_negative(number: Option<u64>) -> Option<i128>
+// Converts a number that was read to its negative. None stays none.
+fn as_negated(number: Option<u64>) -> Option<i128>
     ensures { result ≡ option_map (λ n. neg_ℤ (pos n)) number }
 {
     match number {
@@ -39,46 +39,46 @@ fn as_negative(number: Option<u64>) -> Option<i128>
     }
 }
 
-// Reads a whole number of 1 to `digits` digits, with an optional minus sign. None for another word, or a magnitude
-// above `most`.
-fn signed_number(word: &str, digits: usize, most: u64) -> Option<i128>
+// Reads a whole number of 1 to `digits` digits, perhaps after a minus sign. Returns none for another word, and for a
+// number above `most` in magnitude.
+fn read_signed_number(word: &str, digits: usize, most: u64) -> Option<i128>
     ensures signed { result ≡ signed_of digits most word.now }
     ensures most { IfSome result (λ number. unsigned_abs number ≤ most) }
 {
     match word.strip_prefix('-') {
-        Some(rest) => as_negative(number(rest, digits, 0, most)),
-        None => as_positive(number(word, digits, 0, most)),
+        Some(rest) => as_negated(read_number(rest, digits, 0, most)),
+        None => as_signed(read_number(word, digits, 0, most)),
     }
 }
 
-/// Reads a time of a scalar: a whole number of at most 12 digits, with an optional minus sign. None for any other
-/// word.
-pub(crate) fn time(word: &str) -> Option<i64>
+/// Reads a time of a scalar: a whole number of at most 12 digits, perhaps after a minus sign. Returns none for any
+/// other word.
+pub(crate) fn read_scalar_time(word: &str) -> Option<i64>
     ensures { result ≡ scalar_time_of word.now }
 {
-    match signed_number(word, MAX_DIGITS_OF_A_TIME, MAX_SCALAR_TIME) {
+    match read_signed_number(word, MAX_DIGITS_OF_A_TIME, MAX_SCALAR_TIME) {
         Some(time) => Some(time as i64),
         None => None,
     }
 }
 
-// Reads a factor of a polynomial: a whole number of at most 19 digits, with an optional minus sign. None for any
-// other word.
-fn factor(word: &str) -> Option<i128>
+// Reads one of the three numbers of a polynomial: a whole number of at most 19 digits, perhaps after a minus sign.
+// Returns none for any other word.
+fn read_factor(word: &str) -> Option<i128>
     ensures { result ≡ factor_of word.now }
 {
-    signed_number(word, MAX_DIGITS_OF_A_FACTOR, MAX_WRITTEN_FACTOR)
+    read_signed_number(word, MAX_DIGITS_OF_A_FACTOR, MAX_WRITTEN_FACTOR)
 }
 
-// Splits a word at its first comma into what stands before and after it. None where there is no comma.
+// Splits a word at its first comma into the texts before and after it. Returns none if there is no comma.
 fn split_at_comma<'a>(word: &'a str) -> Option<(&'a str, &'a str)>
     ensures { bytes_of_two result ≡ at_comma word.entry.now }
 {
     word.split_once(',')
 }
 
-// Tells whether the factors are small enough to be searched for: p and q of at most 2^20, r of at most 2^62 in
-// magnitude.
+// Tells whether the polynomial p t^2 + q t + r can be searched for: in magnitude p and q have to be at most 2^20, and r
+// at most 2^62.
 fn is_small(p: i128, q: i128, r: i128) -> bool
     ensures { result ≡ is_small (record { p = p; q = q; r = r }) }
 {
@@ -87,7 +87,7 @@ fn is_small(p: i128, q: i128, r: i128) -> bool
         && r.unsigned_abs() <= u128::from(MAX_SUMMAND)
 }
 
-// Returns the polynomial of these factors, or none where a factor is too large to be searched for.
+// Returns the polynomial p t^2 + q t + r, or none if one of its numbers is too large for a search.
 fn small_polynomial(p: i128, q: i128, r: i128) -> Option<Polynomial>
     ensures { result ≡ small_polynomial p q r }
 {
@@ -102,30 +102,32 @@ fn small_polynomial(p: i128, q: i128, r: i128) -> Option<Polynomial>
     }
 }
 
-// Returns the polynomial of three factors. None where one could not be read or is too large.
+// Returns the polynomial p t^2 + q t + r of three numbers that were read. Returns none if one of them could not be read
+// (`None`) or is too large for a search.
 fn polynomial_of_numbers(p: Option<i128>, q: Option<i128>, r: Option<i128>) -> Option<Polynomial>
     ensures { result ≡ polynomial_of_numbers p q r }
 {
     small_polynomial(p?, q?, r?)
 }
 
-// Reads a polynomial from its first word and the two others. None where there are no others, or one cannot be read.
-fn polynomial_of_two(p: &str, others: Option<(&str, &str)>) -> Option<Polynomial>
+// Reads the polynomial p t^2 + q t + r from the word of p, and `others`, the words of q and r. Returns none if there
+// are no others, or a word is not that of a number that can be searched for.
+fn polynomial_of_words(p: &str, others: Option<(&str, &str)>) -> Option<Polynomial>
     ensures { result ≡ polynomial_of_two p.now (bytes_of_two others.entry) }
 {
     match others {
-        Some((q, r)) => polynomial_of_numbers(factor(p), factor(q), factor(r)),
+        Some((q, r)) => polynomial_of_numbers(read_factor(p), read_factor(q), read_factor(r)),
         None => None,
     }
 }
 
-/// Reads a polynomial that can be searched for: its three numbers p, q and r, joined by commas. None for any other
-/// word.
-pub(crate) fn quad(word: &str) -> Option<Polynomial>
+/// Reads a polynomial p t^2 + q t + r that can be searched for, from its three numbers joined by commas. Returns none
+/// for any other word.
+pub(crate) fn read_polynomial(word: &str) -> Option<Polynomial>
     ensures { result ≡ polynomial_of word.now }
 {
     match split_at_comma(word) {
-        Some((p, others)) => polynomial_of_two(p, split_at_comma(others)),
+        Some((p, others)) => polynomial_of_words(p, split_at_comma(others)),
         None => None,
     }
 }

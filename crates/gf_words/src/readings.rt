@@ -10,8 +10,8 @@ use clap::{ArgMatches, Command};
 use spec_requests::{FileNames, Named, WordFault, option_name};
 use std::alloc::{AllocError, Global};
 
-/// Reads the words, of which the first is the command's name, by the command's rules. An error is out of memory, or
-/// says that the rules refuse the words.
+/// Reads words, of which the first is the command's name, by the rules of that command. The error is out of memory, or
+/// that the rules refuse the words.
 pub(crate) fn read_words<'a>(
     command: Command<'a>,
     words: &'a [String],
@@ -24,12 +24,12 @@ pub(crate) fn read_words<'a>(
 {
     match command.try_get_matches_from(words) {
         Ok(matches) => Ok(matches),
-        Err(error) => Err(fault_of_kind(error.kind())),
+        Err(error) => Err(fault_of_clap_error(error.kind())),
     }
 }
 
-// Returns why `clap` gave up: out of memory, or words that the command's rules refuse.
-fn fault_of_kind(kind: ErrorKind) -> WordFault
+// Returns the fault of words that `clap` could not read: out of memory, or that the rules of the command refuse them.
+fn fault_of_clap_error(kind: ErrorKind) -> WordFault
     ensures { result ≡ word_fault kind }
 {
     match kind {
@@ -38,15 +38,14 @@ fn fault_of_kind(kind: ErrorKind) -> WordFault
     }
 }
 
-/// Returns the word that was given for an option, or for a word of `gen` with that name. None where there is none.
-pub(crate) fn value<'a>(matches: &ArgMatches<'a>, option: Named) -> Option<&'a str>
+/// Returns the word that was given for an option, or for a word of `gen`. Returns none if it was left out.
+pub(crate) fn given_word<'a>(matches: &ArgMatches<'a>, option: Named) -> Option<&'a str>
     ensures { text_in result ≡ values_of matches.now option }
 {
     matches.get_str(option_name(option))
 }
 
-/// Copies the names of the files that the words give, in their order. None given makes an empty list. The only error
-/// is out of memory.
+/// Copies the names of the files that were given, in their order. There may be none. The only error is out of memory.
 pub(crate) fn file_names(alloc: Global, matches: &ArgMatches<'_>) -> Result<FileNames, AllocError>
     ensures { IfOk result (λ names. names ≡ file_names_of matches.now) }
 {
@@ -56,7 +55,7 @@ pub(crate) fn file_names(alloc: Global, matches: &ArgMatches<'_>) -> Result<File
     }
 }
 
-// Copies texts in their order. The only error is out of memory.
+// Copies texts to a list of file names, in their order. The only error is out of memory.
 fn copy_names(alloc: Global, texts: &[&str]) -> Result<FileNames, AllocError>
     ensures { IfOk result (λ names. names ≡ map (λ text. text.now) texts.now) }
 {

@@ -7,7 +7,8 @@ use crate::forms::{self, value_named};
 use spec_kinds::{Kind, Use};
 use spec_requests::{RELATIONS, Relation};
 
-// Tells whether a kind has sets: its events have no condition beside their function, and no radii.
+// Tells whether sets can be made of a kind of event, as of each that has neither a condition beside its function nor
+// radii.
 fn has_sets(kind: Kind) -> bool
     ensures { result ≡ has_sets kind }
 {
@@ -18,53 +19,54 @@ fn has_sets(kind: Kind) -> bool
     }
 }
 
-// Tells whether a relation compares with two references instead of one.
-fn is_to_two(relation: Relation) -> bool
+// Tells whether a relation compares with two references, as `within` and `outside` do.
+fn has_two_references(relation: Relation) -> bool
     ensures { result ≡ is_to_two relation }
 {
     matches!(relation, Relation::Within | Relation::Outside)
 }
 
-// Tells whether a kind has a relation. A relation to two references needs a kind that has a reference.
+// Tells whether sets of a kind of event can have a relation. One that compares with two references needs a kind that
+// has a reference value.
 fn has_relation(kind: Kind, relation: Relation) -> bool
     ensures { result ≡ has_relation kind relation }
 {
-    !is_to_two(relation) || !kind.reference().is_unused()
+    !has_two_references(relation) || !kind.reference().is_unused()
 }
 
-/// Returns how a relation uses the second reference: it needs one, or has no use for it.
+/// Returns the use that a relation has for the second reference, the option `ref2`: it is needed, or not used.
 pub(crate) fn use_of_ref2(relation: Relation) -> Use
     ensures { result ≡ use_of_ref2 (Some relation) }
 {
-    if is_to_two(relation) {
+    if has_two_references(relation) {
         Use::Needed
     } else {
         Use::Unused
     }
 }
 
-/// Returns the kind of this name, or none where there is no such kind or it has no sets.
-pub(crate) fn kind(word: &str) -> Option<Kind>
+/// Returns the kind of event of this name if sets can be made of it, else none.
+pub(crate) fn set_kind_named(word: &str) -> Option<Kind>
     ensures { result ≡ set_kind_of word.now }
 {
-    match forms::kind(word) {
+    match forms::kind_named(word) {
         Some(kind) if has_sets(kind) => Some(kind),
         _ => None,
     }
 }
 
-// Returns the relation of this name for any kind, or none.
-fn any_relation(word: &str) -> Option<Relation>
+// Returns the relation of this name, for any kind of event, or none for any other word.
+fn relation_named(word: &str) -> Option<Relation>
     ensures { result ≡ relation_of word.now }
 {
     value_named(&RELATIONS, word)
 }
 
-/// Returns the relation of this name, or none where there is no such relation or the kind does not have it.
-pub(crate) fn relation(kind: Kind, word: &str) -> Option<Relation>
+/// Returns the relation of this name if sets of the kind of event can have it, else none.
+pub(crate) fn relation_of_kind(kind: Kind, word: &str) -> Option<Relation>
     ensures { result ≡ relation_for kind word.now }
 {
-    match any_relation(word) {
+    match relation_named(word) {
         Some(relation) if has_relation(kind, relation) => Some(relation),
         _ => None,
     }

@@ -1,65 +1,50 @@
 // Requests: a command line is read by its command, and the options become a request or the first fault.
-ghost use Rattle.std.specs.Prelude.{◌≡◌, ◌⊎◌, IfErr, IfOk, Ok, Err, Some, map, option_and_then, string_bytes, true};
+ghost use Rattle.std.specs.Prelude.{◌≡◌, ◌⊎◌, IfErr, IfOk, Ok, Err, Some, map, string_bytes, true};
 ghost use Rattle.spec_requests.specs.Commands.{command_rules, is_refused};
-ghost use Rattle.spec_requests.specs.Options.{name_of};
-ghost use Rattle.spec_requests.specs.Requests.{request_by, request_for, request_of, verify_of};
-ghost use Rattle.spec_requests.specs.declared.request.Named.TheVariants as opt;
+ghost use Rattle.spec_requests.specs.Requests.{request_by, request_for, request_of};
 ghost use Rattle.spec_requests.specs.declared.tables.CommandName.TheVariants as command;
 ghost use Rattle.spec_requests.specs.declared.request.Request.TheVariants.{Check};
 ghost use Rattle.gf_words.specs.Answers.{Answers};
 ghost use Rattle.gf_words.specs.Readings.{IsReading, file_names_of, values_of};
 
-use crate::commands::command;
+use crate::commands::command_with_rules;
 use crate::readings::{file_names, read_words};
 use crate::scalars::scalar_request;
-use crate::searches::{search, text};
+use crate::searches::{copy_text, search_of_matches};
 use crate::sets::set_request;
 use crate::texts::generated_request;
 use crate::{forms, parts};
 use clap::ArgMatches;
-use spec_requests::{CommandName, FindAsk, Named, Request, WordFault};
+use spec_requests::{CommandName, Named, Request, WordFault};
 use std::alloc::Global;
 
-// Makes the request of `find` from its options and files, or names the first option that is bad.
+// Makes the request of the command `find` from its options and files. The error names the first bad option, or is out
+// of memory.
 fn find_request(alloc: Global, matches: &ArgMatches<'_>) -> Result<Request, WordFault>
     ensures { Answers (request_by command.Find (values_of matches.now) (file_names_of matches.now))
         result }
 {
-    search(alloc, matches).map(Request::Find)
+    search_of_matches(alloc, matches).map(Request::Find)
 }
 
-// Makes the request of `cert`, which has the options of `find`, or names the first option that is bad.
+// Makes the request of the command `cert`, which has the options of `find`. The error names the first bad option, or is
+// out of memory.
 fn cert_request(alloc: Global, matches: &ArgMatches<'_>) -> Result<Request, WordFault>
     ensures { Answers (request_by command.Cert (values_of matches.now) (file_names_of matches.now))
         result }
 {
-    search(alloc, matches).map(Request::Cert)
+    search_of_matches(alloc, matches).map(Request::Cert)
 }
 
-// Makes the request of `verify`: a search as `find` has it, and the certificate. Else names the first option that is
-// bad.
+// Makes the request of the command `verify`: a search as `find` has it, and the name of the certificate's file. The
+// option of that name is bad if it is left out or empty. The error names the first bad option, or is out of memory.
 fn verify_request(alloc: Global, matches: &ArgMatches<'_>) -> Result<Request, WordFault>
     ensures { Answers (request_by command.Verify (values_of matches.now)
         (file_names_of matches.now)) result }
 {
-    match search(alloc, matches) {
-        Ok(find) => with_certificate(alloc, matches, find),
-        Err(fault) => Err(fault),
-    }
-}
-
-// Adds the name of the certificate to a search. The option is bad where it is left out or empty. The other error is
-// out of memory.
-fn with_certificate(
-    alloc: Global,
-    matches: &ArgMatches<'_>,
-    find: FindAsk,
-) -> Result<Request, WordFault>
-    ensures { Answers (verify_of (option_and_then name_of (values_of matches.now opt.Cert)) find)
-        result }
-{
-    match parts::cert(matches) {
-        Some(name) => match text(alloc, name) {
+    let find = search_of_matches(alloc, matches)?;
+    match parts::certificate_option(matches) {
+        Some(name) => match copy_text(alloc, name) {
             Ok(cert) => Ok(Request::Verify { find, cert }),
             Err(_) => Err(WordFault::Memory),
         },
@@ -67,7 +52,7 @@ fn with_certificate(
     }
 }
 
-// Makes the request of `check` from its files. The only error is out of memory.
+// Makes the request of the command `check` from the names of its files. The only error is out of memory.
 fn check_request(alloc: Global, matches: &ArgMatches<'_>) -> Result<Request, WordFault>
     ensures { Answers (Ok (Check (file_names_of matches.now))) result }
 {
@@ -77,8 +62,9 @@ fn check_request(alloc: Global, matches: &ArgMatches<'_>) -> Result<Request, Wor
     }
 }
 
-// Makes the request of a command from what `clap` read, or names the first option that is bad.
-fn request_by(
+// Makes the request of a command from the options and words that `clap` read for it. The error names the first bad
+// option, or is out of memory.
+fn request_of_matches(
     alloc: Global,
     name: CommandName,
     matches: &ArgMatches<'_>,
@@ -96,9 +82,9 @@ fn request_by(
     }
 }
 
-// Reads the words by the rules of the command that the first of them names. An error is out of memory, or says that
-// the rules refuse the words.
-fn matches_of<'a>(
+// Reads words by the rules of a command, of which the first word is the name. The error is out of memory, or that the
+// rules refuse the words.
+fn matches_of_words<'a>(
     alloc: Global,
     name: CommandName,
     words: &'a [String],
@@ -108,27 +94,30 @@ fn matches_of<'a>(
     ensures refused { IfErr result (λ e. (e ≡ WordFault.Memory) ⊎ ((e ≡ WordFault.Words)
         × (is_refused (command_rules name) (map string_bytes words.entry.now) ≡ true))) }
 {
-    match command(alloc, name) {
+    match command_with_rules(alloc, name) {
         Ok(command) => read_words(command, words),
         Err(_) => Err(WordFault::Memory),
     }
 }
 
-// Makes the request that the words ask of a command, which the first of them names, or returns the first fault.
-fn request_for(alloc: Global, name: CommandName, words: &[String]) -> Result<Request, WordFault>
+// Makes the request that words ask of a command, of which the first word is the name. The error is the first fault of
+// the words, or out of memory.
+fn request_of_command(
+    alloc: Global,
+    name: CommandName,
+    words: &[String],
+) -> Result<Request, WordFault>
     ensures { Answers (request_for (Some name) (map string_bytes words.now)) result }
 {
-    match matches_of(alloc, name, words) {
-        Ok(matches) => request_by(alloc, name, &matches),
+    match matches_of_words(alloc, name, words) {
+        Ok(matches) => request_of_matches(alloc, name, &matches),
         Err(fault) => Err(fault),
     }
 }
 
-/// What the words of a command line ask for, the program's own name left out: a command, with its options and files.
-///
-/// The fault is 60 where there is no word, 61 where the first names no command, 62 where `clap` cannot read the others by
-/// the command, and 63 names the first option, in the order of the table, that is needed and not there, is not used
-/// and is there, or whose value is not of its form. Out of memory is an error of its own.
+/// Makes the request that the words of a command line ask for, without the program's own name. The fault is 60 for no
+/// word, 61 for an unknown command, 62 for words that `clap` refuses, and 63 for the first bad option in the order of
+/// the table. Out of memory is an error of its own.
 pub fn request(alloc: Global, words: &[String]) -> Result<Request, WordFault>
     ensures asked { IfOk result (λ request.
         request_of (map string_bytes words.now) ≡ Ok request) }
@@ -136,8 +125,8 @@ pub fn request(alloc: Global, words: &[String]) -> Result<Request, WordFault>
         ⊎ (request_of (map string_bytes words.now) ≡ Err fault)) }
 {
     match words {
-        [first, ..] => match forms::command(first) {
-            Some(command) => request_for(alloc, command, words),
+        [first, ..] => match forms::command_named(first) {
+            Some(command) => request_of_command(alloc, command, words),
             None => Err(WordFault::UnknownCommand),
         },
         [] => Err(WordFault::NoCommand),

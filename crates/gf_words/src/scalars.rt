@@ -5,9 +5,9 @@ ghost use Rattle.gf_words.specs.Answers.{Answers};
 ghost use Rattle.gf_words.specs.Parts.{scalar_by_options, scalar_read, times_read};
 ghost use Rattle.gf_words.specs.Readings.{values_of};
 
-use crate::parts::{self, pair};
+use crate::parts::{self, join_parts};
 use crate::polynomials::Polynomial;
-use crate::searches::{Limits, read_limits, text, word_or_default};
+use crate::searches::{Limits, copy_text, read_limits, word_or_default};
 use clap::ArgMatches;
 use spec_events::Dir;
 use spec_requests::{Named, Request, ScalarAsk, WordFault};
@@ -24,22 +24,26 @@ pub(crate) struct ScalarOptions {
     pub(crate) limits: Limits,
 }
 
-// Reads the first and the last time of a scalar's span, both needed, or names the first that is bad.
+// Reads the first and the last time of the span of `scalar`, which are both needed. The error names the first bad
+// option.
 fn read_times(matches: &ArgMatches<'_>) -> Result<(i64, i64), Named>
     ensures { result ≡ times_read (values_of matches.now) }
 {
-    let from = parts::scalar_time(matches, Named::From);
-    pair(from, parts::scalar_time(matches, Named::To))
+    let from = parts::scalar_time_option(matches, Named::From);
+    join_parts(from, parts::scalar_time_option(matches, Named::To))
 }
 
-// Reads the options of `scalar` in the order of their faults, or names the first that is bad. An option that may be
-// left out has its default.
-fn read_scalar(matches: &ArgMatches<'_>) -> Result<ScalarOptions, Named>
+// Reads the options of `scalar` in the order of their faults. One that may be left out has its default. The error names
+// the first bad option.
+fn read_scalar_options(matches: &ArgMatches<'_>) -> Result<ScalarOptions, Named>
     ensures { result ≡ scalar_read (values_of matches.now) }
 {
-    let sought = pair(parts::quad(matches), parts::dir(matches));
-    let manner = pair(read_times(matches), read_limits(matches));
-    match pair(sought, manner) {
+    let sought = join_parts(
+        parts::polynomial_option(matches),
+        parts::direction_option(matches),
+    );
+    let manner = join_parts(read_times(matches), read_limits(matches));
+    match join_parts(sought, manner) {
         Ok(((polynomial, dir), ((from, to), limits))) => Ok(ScalarOptions {
             polynomial,
             dir: dir.unwrap_or(Dir::Any),
@@ -51,7 +55,8 @@ fn read_scalar(matches: &ArgMatches<'_>) -> Result<ScalarOptions, Named>
     }
 }
 
-// Adds the text of the polynomial, as it was given, to options that were read. The only error is out of memory.
+// Makes the search of a polynomial from its options, which were read, and the text of the polynomial as it was given.
+// The only error is out of memory.
 fn scalar_of_options(
     alloc: Global,
     matches: &ArgMatches<'_>,
@@ -64,7 +69,7 @@ fn scalar_of_options(
         p: options.polynomial.p,
         q: options.polynomial.q,
         r: options.polynomial.r,
-        text: text(alloc, word_or_default(matches, Named::Quad, ""))?,
+        text: copy_text(alloc, word_or_default(matches, Named::Quad, ""))?,
         from: options.from,
         to: options.to,
         plan: Plan {
@@ -77,11 +82,12 @@ fn scalar_of_options(
     })
 }
 
-/// Makes the request of `scalar` from its options. An error names the first option that is bad, or is out of memory.
+/// Makes the request of the command `scalar` from its options. The error names the first bad option, or is out of
+/// memory.
 pub(crate) fn scalar_request(alloc: Global, matches: &ArgMatches<'_>) -> Result<Request, WordFault>
     ensures { Answers (scalar_by (values_of matches.now)) result }
 {
-    match read_scalar(matches) {
+    match read_scalar_options(matches) {
         Ok(options) => match scalar_of_options(alloc, matches, options) {
             Ok(ask) => Ok(Request::Scalar(ask)),
             Err(_) => Err(WordFault::Memory),

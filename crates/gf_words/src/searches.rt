@@ -8,8 +8,8 @@ ghost use Rattle.gf_words.specs.Answers.{Answers};
 ghost use Rattle.gf_words.specs.Parts.{ask_read, axes_read, bodies_read, ends_read, limits_read, numbers_read, radii_read, search_by_options, search_read, search_with_texts, span_read};
 ghost use Rattle.gf_words.specs.Readings.{file_names_of, text_in, values_of};
 
-use crate::parts::{self, pair};
-use crate::readings::{file_names, value};
+use crate::parts::{self, join_parts};
+use crate::readings::{file_names, given_word};
 use clap::ArgMatches;
 use spec_bodies::Frame;
 use spec_ephemeris::Body;
@@ -70,15 +70,15 @@ pub(crate) struct SearchOptions {
     pub(crate) limits: Limits,
 }
 
-// Returns a number, or 0 where it was left out.
+// Returns the number of an option, or 0 if the option was left out.
 fn number_or_0(number: Option<Decimal>) -> Decimal
     ensures { result ≡ unwrap_or number nought }
 {
     number.unwrap_or(Decimal { mant: 0, exp: 0 })
 }
 
-// Returns the first number of an event: its radius where the kind has radii, else its reference value. It is 0 where
-// it was left out.
+// Returns the first number of an event: the first radius if its kind has radii, else the reference value. It is 0 if
+// the option was left out.
 fn first_number(kind: Kind, radius: Option<Decimal>, reference: Option<Decimal>) -> Decimal
     ensures { result ≡ unwrap_or (if takes_radii kind then radius else reference) nought }
 {
@@ -91,13 +91,13 @@ fn first_number(kind: Kind, radius: Option<Decimal>, reference: Option<Decimal>)
 
 // ---- the options of `find` in their order, as this kind uses them. What may be left out has its default.
 
-// Reads the second body and the observer beside the target, or names the first that is bad. The default observer is
-// the barycentre of the solar system.
+// Reads the second body and the observer of an event, and joins them with the target. If no observer is given, it is
+// the barycentre of the solar system. The error names the first bad option.
 fn read_bodies(matches: &ArgMatches<'_>, kind: Kind, target: Body) -> Result<Bodies, Named>
     ensures { result ≡ bodies_read (values_of matches.now) kind target }
 {
-    let second = parts::second_body(matches, kind.second());
-    match pair(second, parts::observer(matches)) {
+    let second = parts::second_body_option(matches, kind.second());
+    match join_parts(second, parts::observer_option(matches)) {
         Ok((second, observer)) => Ok(Bodies {
             target,
             second,
@@ -107,12 +107,13 @@ fn read_bodies(matches: &ArgMatches<'_>, kind: Kind, target: Body) -> Result<Bod
     }
 }
 
-// Reads the frame and the axis, or names the first that is bad. The defaults are `eq` and `x`.
+// Reads the frame and the axis of an event, which are `eq` and `x` if they are left out. The error names the first bad
+// option.
 fn read_axes(matches: &ArgMatches<'_>, kind: Kind) -> Result<Axes, Named>
     ensures { result ≡ axes_read (values_of matches.now) kind }
 {
-    let frame = parts::frame(matches, kind.frame());
-    match pair(frame, parts::axis(matches, kind.axis())) {
+    let frame = parts::frame_option(matches, kind.frame());
+    match join_parts(frame, parts::axis_option(matches, kind.axis())) {
         Ok((frame, axis)) => Ok(Axes {
             frame: frame.unwrap_or(Frame::Eq),
             axis: axis.unwrap_or(0),
@@ -121,26 +122,27 @@ fn read_axes(matches: &ArgMatches<'_>, kind: Kind) -> Result<Axes, Named>
     }
 }
 
-// Reads both radii, as far as the kind uses them, or names the first that is bad.
+// Reads the radii of both bodies in km, which are none if the kind of event has no radii. The error names the first bad
+// option.
 fn read_radii(
     matches: &ArgMatches<'_>,
     kind: Kind,
 ) -> Result<(Option<Decimal>, Option<Decimal>), Named>
     ensures { result ≡ radii_read (values_of matches.now) kind }
 {
-    let radius1 = parts::number(matches, Named::Radius1, kind.radii());
-    pair(
+    let radius1 = parts::decimal_option(matches, Named::Radius1, kind.radii());
+    join_parts(
         radius1,
-        parts::number(matches, Named::Radius2, kind.radii()),
+        parts::decimal_option(matches, Named::Radius2, kind.radii()),
     )
 }
 
-// Reads the reference value and the radii as the two numbers of an event, or names the first that is bad.
+// Reads the two numbers of an event: a reference value and 0, or two radii. The error names the first bad option.
 fn read_numbers(matches: &ArgMatches<'_>, kind: Kind) -> Result<Numbers, Named>
     ensures { result ≡ numbers_read (values_of matches.now) kind }
 {
-    let reference = parts::number(matches, Named::Ref, kind.reference());
-    match pair(reference, read_radii(matches, kind)) {
+    let reference = parts::decimal_option(matches, Named::Ref, kind.reference());
+    match join_parts(reference, read_radii(matches, kind)) {
         Ok((reference, (radius1, radius2))) => Ok(Numbers {
             value1: first_number(kind, radius1, reference),
             value2: number_or_0(radius2),
@@ -149,8 +151,8 @@ fn read_numbers(matches: &ArgMatches<'_>, kind: Kind) -> Result<Numbers, Named>
     }
 }
 
-// Reads the event of a search in either direction, and joins `last`, which was read after its numbers. Else names the
-// first option that is bad.
+// Reads the event of a search, with any direction, and joins `last`, the part of the request whose options come right
+// after the event's numbers, so that faults keep their order. The error names the first bad option.
 fn read_ask<X: Copy>(
     matches: &ArgMatches<'_>,
     kind: Kind,
@@ -160,9 +162,9 @@ fn read_ask<X: Copy>(
     ensures { result ≡ ask_read last (values_of matches.now) kind target }
 {
     let bodies = read_bodies(matches, kind, target);
-    let places = pair(bodies, read_axes(matches, kind));
-    let numbers = pair(read_numbers(matches, kind), last);
-    match pair(places, numbers) {
+    let places = join_parts(bodies, read_axes(matches, kind));
+    let numbers = join_parts(read_numbers(matches, kind), last);
+    match join_parts(places, numbers) {
         Ok(((bodies, axes), (numbers, last))) => {
             let ask = Ask {
                 kind,
@@ -181,22 +183,22 @@ fn read_ask<X: Copy>(
     }
 }
 
-// Reads the first and last time of the span, in ticks since J2000 in TDB, or names the first that is bad. Each may be
-// left out.
+// Reads the first and the last time of a span, in ticks since J2000 in TDB, each of which may be left out. The error
+// names the first bad option.
 fn read_span(matches: &ArgMatches<'_>) -> Result<(Option<i64>, Option<i64>), Named>
     ensures { result ≡ span_read (values_of matches.now) }
 {
-    let tick = parts::tick_in(matches);
-    let from = parts::instant(matches, Named::From, tick);
-    pair(from, parts::instant(matches, Named::To, tick))
+    let tick = parts::ticks_or_default(matches);
+    let from = parts::instant_option(matches, Named::From, tick);
+    join_parts(from, parts::instant_option(matches, Named::To, tick))
 }
 
-// Reads the ticks of a second and the span, or names the first option that is bad. A second has one tick where none
-// is given.
-fn read_ends(matches: &ArgMatches<'_>) -> Result<Ends, Named>
+// Reads the number of ticks in a second, which is 1 if it is left out, and the first and the last time of the span in
+// such ticks. The error names the first bad option.
+fn read_tick_and_span(matches: &ArgMatches<'_>) -> Result<Ends, Named>
     ensures { result ≡ ends_read (values_of matches.now) }
 {
-    match pair(parts::tick(matches), read_span(matches)) {
+    match join_parts(parts::ticks_option(matches), read_span(matches)) {
         Ok((tick, (from, to))) => Ok(Ends {
             tick: tick.unwrap_or(DEFAULT_TICK),
             from,
@@ -206,14 +208,17 @@ fn read_ends(matches: &ArgMatches<'_>) -> Result<Ends, Named>
     }
 }
 
-/// Reads how a span is searched, or names the first option that is bad. The defaults are one tick, depth 40, one
-/// worker and halves.
+/// Reads the limits of a search: width, depth, workers and rule of cutting. The defaults are one tick, depth 40, one
+/// worker and halves. The error names the first bad option.
 pub(crate) fn read_limits(matches: &ArgMatches<'_>) -> Result<Limits, Named>
     ensures { result ≡ limits_read (values_of matches.now) }
 {
-    let sizes = pair(parts::width(matches), parts::depth(matches));
-    let manner = pair(parts::workers(matches), parts::cut(matches));
-    match pair(sizes, manner) {
+    let sizes = join_parts(parts::width_option(matches), parts::depth_option(matches));
+    let manner = join_parts(
+        parts::workers_option(matches),
+        parts::cut_rule_option(matches),
+    );
+    match join_parts(sizes, manner) {
         Ok(((width, depth), (workers, cut))) => Ok(Limits {
             width: width.unwrap_or(DEFAULT_WIDTH),
             depth: depth.unwrap_or(DEFAULT_DEPTH),
@@ -224,8 +229,8 @@ pub(crate) fn read_limits(matches: &ArgMatches<'_>) -> Result<Limits, Named>
     }
 }
 
-/// Reads a search in either direction without its texts, and joins `last`, which was read after the numbers of its
-/// event. Else names the first option that is bad.
+/// Reads a search without its texts and its direction, and joins `last`, the part of the request whose options come
+/// right after the event's numbers, so that faults keep their order. The error names the first bad option.
 pub(crate) fn read_search<X: Copy>(
     matches: &ArgMatches<'_>,
     kind: Kind,
@@ -234,8 +239,8 @@ pub(crate) fn read_search<X: Copy>(
 ) -> Result<(SearchOptions, X), Named>
     ensures { result ≡ search_read last (values_of matches.now) kind target }
 {
-    let manner = pair(read_ends(matches), read_limits(matches));
-    match pair(read_ask(matches, kind, target, last), manner) {
+    let manner = join_parts(read_tick_and_span(matches), read_limits(matches));
+    match join_parts(read_ask(matches, kind, target, last), manner) {
         Ok(((ask, last), (ends, limits))) => Ok((SearchOptions { ask, ends, limits }, last)),
         Err(option) => Err(option),
     }
@@ -243,7 +248,7 @@ pub(crate) fn read_search<X: Copy>(
 
 // ---- the texts
 
-/// Returns the word that was given for an option, or the default.
+/// Returns the word that was given for an option, or the default if it was left out.
 pub(crate) fn word_or_default<'a>(
     matches: &ArgMatches<'a>,
     option: Named,
@@ -251,21 +256,22 @@ pub(crate) fn word_or_default<'a>(
 ) -> &'a str
     ensures { result.now ≡ unwrap_or (values_of matches.now option) default.entry.now }
 {
-    match value(matches, option) {
+    match given_word(matches, option) {
         Some(word) => word,
         None => default,
     }
 }
 
 /// Copies a word into a text. The only error is out of memory.
-pub(crate) fn text(alloc: Global, word: &str) -> Result<Text, AllocError>
+pub(crate) fn copy_text(alloc: Global, word: &str) -> Result<Text, AllocError>
     ensures { IfOk result (λ text. text ≡ word.now) }
 {
     Ok(Text::new(String::from_str(alloc, word)?))
 }
 
-/// Appends a comma and a second word to a text, or nothing where there is none. The only error is out of memory.
-pub(crate) fn with_second(first: Text, second: Option<&str>) -> Result<Text, AllocError>
+/// Returns a text with a comma and a second word after it, or the text alone if there is no second word. The only error
+/// is out of memory.
+pub(crate) fn with_second_word(first: Text, second: Option<&str>) -> Result<Text, AllocError>
     ensures { IfOk result (λ text. text ≡ first ++ ref2_text (text_in second.entry)) }
 {
     match second {
@@ -279,8 +285,8 @@ pub(crate) fn with_second(first: Text, second: Option<&str>) -> Result<Text, All
     }
 }
 
-/// Returns the numbers of an event as they are printed: two radii joined by a comma, the reference value, or `-`
-/// where the kind has neither. A reference that is left out is `0`. The only error is out of memory.
+/// Returns the numbers of an event as they are printed: two radii joined by a comma, or the reference value. It is `-`
+/// for a kind of event that has neither. A reference value that was left out is `0`. The only error is out of memory.
 pub(crate) fn values_text(
     alloc: Global,
     matches: &ArgMatches<'_>,
@@ -289,18 +295,18 @@ pub(crate) fn values_text(
     ensures { IfOk result (λ text. text ≡ values_text (values_of matches.now) kind) }
 {
     if kind.takes_radii() {
-        let first = text(alloc, word_or_default(matches, Named::Radius1, ""))?;
-        return with_second(first, Some(word_or_default(matches, Named::Radius2, "")));
+        let first = copy_text(alloc, word_or_default(matches, Named::Radius1, ""))?;
+        return with_second_word(first, Some(word_or_default(matches, Named::Radius2, "")));
     }
     if kind.reference().is_unused() {
-        return text(alloc, "-");
+        return copy_text(alloc, "-");
     }
-    text(alloc, word_or_default(matches, Named::Ref, "0"))
+    copy_text(alloc, word_or_default(matches, Named::Ref, "0"))
 }
 
-/// Makes the search in this direction from its options, with the text of its numbers and the names of its files. The
-/// only error is out of memory.
-pub(crate) fn with_texts(
+/// Makes a search in the direction `dir` from options that were read, with `values`, the text of its numbers, and the
+/// names of its files. The only error is out of memory.
+pub(crate) fn search_with_texts(
     alloc: Global,
     matches: &ArgMatches<'_>,
     search: SearchOptions,
@@ -326,8 +332,8 @@ pub(crate) fn with_texts(
     })
 }
 
-// Adds the direction, the text of the numbers and the names of the files to a search that was read. The only error is
-// out of memory.
+// Makes the search of a kind of event and a target from options that were read, with the text of its numbers and the
+// names of its files. The direction is any if none was given. The only error is out of memory.
 fn search_of_options(
     alloc: Global,
     matches: &ArgMatches<'_>,
@@ -342,11 +348,11 @@ fn search_of_options(
         find ≡ search_of (values_of matches.now) kind target (file_names_of matches.now)) }
 {
     let values = values_text(alloc, matches, kind)?;
-    with_texts(alloc, matches, search, dir.unwrap_or(Dir::Any), values)
+    search_with_texts(alloc, matches, search, dir.unwrap_or(Dir::Any), values)
 }
 
-// Makes the search of a kind and a target that were read. An error names the first option that is bad, or is out of
-// memory.
+// Makes the search of a kind of event and a target, which were read, from the other options. The error names the first
+// bad option, or is out of memory.
 fn search_of_target(
     alloc: Global,
     matches: &ArgMatches<'_>,
@@ -357,7 +363,7 @@ fn search_of_target(
     requires target { option_and_then target_of (values_of matches.now opt.Target) ≡ Some target }
     ensures { Answers (search_by (values_of matches.now) (file_names_of matches.now)) result }
 {
-    match read_search(matches, kind, target, parts::dir(matches)) {
+    match read_search(matches, kind, target, parts::direction_option(matches)) {
         Ok((search, dir)) => match search_of_options(alloc, matches, kind, target, search, dir) {
             Ok(find) => Ok(find),
             Err(_) => Err(WordFault::Memory),
@@ -366,12 +372,15 @@ fn search_of_target(
     }
 }
 
-/// Makes the search that the options of `find` ask for. An error names the first option that is bad, or is out of
-/// memory.
-pub(crate) fn search(alloc: Global, matches: &ArgMatches<'_>) -> Result<FindAsk, WordFault>
+/// Makes the search that the options of `find` ask for, which `cert` and `verify` have too. The error names the first
+/// bad option, or is out of memory.
+pub(crate) fn search_of_matches(
+    alloc: Global,
+    matches: &ArgMatches<'_>,
+) -> Result<FindAsk, WordFault>
     ensures { Answers (search_by (values_of matches.now) (file_names_of matches.now)) result }
 {
-    match pair(parts::kind(matches), parts::target(matches)) {
+    match join_parts(parts::kind_option(matches), parts::target_option(matches)) {
         Ok((kind, target)) => search_of_target(alloc, matches, kind, target),
         Err(option) => Err(WordFault::BadValue(option)),
     }

@@ -9,10 +9,12 @@ ghost use Rattle.gf_words.specs.Answers.{Answers};
 ghost use Rattle.gf_words.specs.Parts.{references_after, references_by, references_read, search_by_options};
 ghost use Rattle.gf_words.specs.Readings.{file_names_of, values_of};
 
-use crate::parts::{self, pair};
-use crate::readings::value;
+use crate::parts::{self, join_parts};
+use crate::readings::given_word;
 use crate::relations::use_of_ref2;
-use crate::searches::{SearchOptions, read_search, values_text, with_second, with_texts};
+use crate::searches::{
+    SearchOptions, read_search, search_with_texts, values_text, with_second_word,
+};
 use clap::ArgMatches;
 use spec_ephemeris::Body;
 use spec_events::Dir;
@@ -28,27 +30,29 @@ pub(crate) struct References {
     pub(crate) ref2: Option<Decimal>,
 }
 
-// Reads the relation and its second reference, or names the first that is bad.
+// Reads the relation of a set and its second reference value. The error names the first bad option.
 fn read_references(matches: &ArgMatches<'_>, kind: Kind) -> Result<References, Named>
     ensures { result ≡ references_read (values_of matches.now) kind }
 {
-    match parts::relation(matches, kind) {
-        Ok(relation) => read_ref2(matches, relation),
+    match parts::relation_option(matches, kind) {
+        Ok(relation) => read_second_reference(matches, relation),
         Err(option) => Err(option),
     }
 }
 
-// Reads the second reference of a relation. It is bad where a relation to two has none, or another relation has one.
-fn read_ref2(matches: &ArgMatches<'_>, relation: Relation) -> Result<References, Named>
+// Reads the second reference value of a relation, and joins both. The option is bad if it is left out for a relation
+// that compares with two values, or given for another.
+fn read_second_reference(matches: &ArgMatches<'_>, relation: Relation) -> Result<References, Named>
     ensures { result ≡ references_after (values_of matches.now opt.Ref2) (Ok relation) }
 {
-    match parts::number(matches, Named::Ref2, use_of_ref2(relation)) {
+    match parts::decimal_option(matches, Named::Ref2, use_of_ref2(relation)) {
         Ok(ref2) => Ok(References { relation, ref2 }),
         Err(option) => Err(option),
     }
 }
 
-// Adds the texts of the numbers and of the files to a set that was read. The only error is out of memory.
+// Makes the request of a set from options that were read, with the text of its numbers and the names of its files. The
+// only error is out of memory.
 fn set_of_options(
     alloc: Global,
     matches: &ArgMatches<'_>,
@@ -63,16 +67,16 @@ fn set_of_options(
         (search_of (values_of matches.now) kind target (file_names_of matches.now))) }
 {
     let first = values_text(alloc, matches, kind)?;
-    let values = with_second(first, value(matches, Named::Ref2))?;
+    let values = with_second_word(first, given_word(matches, Named::Ref2))?;
     Ok(Request::Set {
-        find: with_texts(alloc, matches, search, Dir::Any, values)?,
+        find: search_with_texts(alloc, matches, search, Dir::Any, values)?,
         ref2: references.ref2,
         relation: references.relation,
     })
 }
 
-// Makes the set of a kind and a target that were read. An error names the first option that is bad, or is out of
-// memory.
+// Makes the request of a set of a kind of event and a target, which were read, from the other options. The error names
+// the first bad option, or is out of memory.
 fn set_of_target(
     alloc: Global,
     matches: &ArgMatches<'_>,
@@ -95,13 +99,16 @@ fn set_of_target(
     }
 }
 
-/// Makes the request of `set` from its options and files. An error names the first option that is bad, or is out of
-/// memory.
+/// Makes the request of the command `set` from its options and files. The error names the first bad option, or is out
+/// of memory.
 pub(crate) fn set_request(alloc: Global, matches: &ArgMatches<'_>) -> Result<Request, WordFault>
     ensures { Answers (request_by command.Set (values_of matches.now) (file_names_of matches.now))
         result }
 {
-    match pair(parts::set_kind(matches), parts::target(matches)) {
+    match join_parts(
+        parts::set_kind_option(matches),
+        parts::target_option(matches),
+    ) {
         Ok((kind, target)) => set_of_target(alloc, matches, kind, target),
         Err(option) => Err(WordFault::BadValue(option)),
     }

@@ -4,19 +4,19 @@ ghost use Rattle.spec_requests.specs.Requests.{text_by};
 ghost use Rattle.gf_words.specs.Parts.{text_read};
 ghost use Rattle.gf_words.specs.Readings.{values_of};
 
-use crate::parts::{self, pair};
+use crate::parts::{self, join_parts};
 use clap::ArgMatches;
 use spec_requests::{DEFAULT_WORKERS, Named, Request, WordFault};
 
-// Reads the words of `gen` and its option in the order of their faults. There is one layout, so the request does not
-// hold it.
-fn generated_text(matches: &ArgMatches<'_>) -> Result<Request, Named>
+// Reads the words and the option of `gen` in the order of their faults, and makes its request. There is one layout, so
+// the request does not hold it. The error names the first bad word or option.
+fn read_generation(matches: &ArgMatches<'_>) -> Result<Request, Named>
     ensures { result ≡ text_read (values_of matches.now) }
 {
-    let blocks = parts::blocks(matches);
-    let text = pair(parts::layout(matches), blocks);
-    let manner = pair(parts::seed(matches), parts::workers(matches));
-    match pair(text, manner) {
+    let blocks = parts::blocks_word(matches);
+    let text = join_parts(parts::layout_word(matches), blocks);
+    let manner = join_parts(parts::seed_word(matches), parts::workers_option(matches));
+    match join_parts(text, manner) {
         Ok(((_, blocks), (seed, workers))) => Ok(Request::Gen {
             blocks,
             seed,
@@ -26,11 +26,11 @@ fn generated_text(matches: &ArgMatches<'_>) -> Result<Request, Named>
     }
 }
 
-/// Makes the request of `gen` from its words and its option, or names the first that is bad.
+/// Makes the request of the command `gen` from its words and its option. The error names the first bad one.
 pub(crate) fn generated_request(matches: &ArgMatches<'_>) -> Result<Request, WordFault>
     ensures { result ≡ text_by (values_of matches.now) }
 {
-    match generated_text(matches) {
+    match read_generation(matches) {
         Ok(request) => Ok(request),
         Err(option) => Err(WordFault::BadValue(option)),
     }

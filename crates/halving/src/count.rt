@@ -6,8 +6,9 @@ ghost use Rattle.spec_trees.specs.declared.tree.Verdict.TheVariants.{Split};
 use gf_hooks::{Judge, rules_are_sound};
 use spec_trees::{Node, Verdict};
 
-// The parts of a valid node that is split, which are narrower, and have its leaves together.
-fn parts_of<J: Judge>(judge: &J, node: Node) -> (Node, Node)
+// Returns the left and the right part of a valid node that the judge splits. Both are valid and narrower than the
+// node, and together they have its leaves.
+fn split_parts<J: Judge>(judge: &J, node: Node) -> (Node, Node)
     requires valid { IsValid (J.rules judge.now) node }
     requires split { (J.rules judge.now).verdict node ≡ Split }
     ensures left { IsValid (J.rules judge.now) result.0 }
@@ -21,8 +22,8 @@ fn parts_of<J: Judge>(judge: &J, node: Node) -> (Node, Node)
     judge.cut(node)
 }
 
-/// How many leaves a valid root has, or `None` where they are more than `limit`. No leaf is kept, and no more than about twice
-/// `limit` nodes are judged.
+/// Returns how many leaves the tree of a valid root has, or none if it has more than `limit`. No leaf is kept, and at
+/// most about twice `limit` nodes are judged, and as many more as the tree is deep.
 pub fn count_one<J: Judge>(judge: &J, root: Node, limit: u64) -> Option<u64>
     requires { IsValid (J.rules judge.now) root }
     ensures count { IfSome result (λ count. count ≡ leaf_count (J.rules judge.now) root) }
@@ -32,7 +33,7 @@ pub fn count_one<J: Judge>(judge: &J, root: Node, limit: u64) -> Option<u64>
     rules_are_sound(judge);
     match judge.judge(root) {
         Verdict::Split => {
-            let (left, right) = parts_of(judge, root);
+            let (left, right) = split_parts(judge, root);
             match count_one(judge, left, limit) {
                 Some(first) => match count_one(judge, right, limit - first) {
                     Some(second) => Some(first + second),
@@ -41,14 +42,14 @@ pub fn count_one<J: Judge>(judge: &J, root: Node, limit: u64) -> Option<u64>
                 None => None,
             }
         }
-        Verdict::Clear => one_leaf(limit),
-        Verdict::One(_) => one_leaf(limit),
-        Verdict::Undecided => one_leaf(limit),
+        Verdict::Clear => count_of_one_leaf(limit),
+        Verdict::One(_) => count_of_one_leaf(limit),
+        Verdict::Undecided => count_of_one_leaf(limit),
     }
 }
 
-// One leaf, where there may be one.
-fn one_leaf(limit: u64) -> Option<u64>
+// Returns 1, the count of a node that is itself a leaf, or none if the limit is 0.
+fn count_of_one_leaf(limit: u64) -> Option<u64>
     ensures count { IfSome result (λ count. count ≡ 1) }
     ensures few { IfSome result (λ count. count ≤ limit) }
     ensures none { IfNone result (limit < 1) }

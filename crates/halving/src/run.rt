@@ -14,7 +14,7 @@ pub enum RunError {
     Memory,
 }
 
-// One item more, at the end.
+// Appends an item to a list. The only error is `Memory`: out of memory.
 pub(crate) fn append<T: Drop>(list: &mut Vec<T>, item: T) -> Result<(), RunError>
     ensures ok { OnOk result (list.new.items ≡ list.old.items ++ item ∷ []) }
     ensures err { IfErr result (λ e. e ≡ Memory) }
@@ -25,8 +25,9 @@ pub(crate) fn append<T: Drop>(list: &mut Vec<T>, item: T) -> Result<(), RunError
     }
 }
 
-/// The leaves of a valid root from left to right, or `TooMany` where they are more than `limit`. Besides the next node
-/// only right parts of nodes above it wait, so that memory is taken for the leaves and for the depth of the tree.
+/// Returns the leaves of a valid root's tree from left to right, or `TooMany` if there are more than `limit`, or
+/// `Memory`. Besides the next node only right parts of nodes wait, so memory is taken for the leaves and for the
+/// tree's depth.
 pub fn run_one<J: Judge>(
     alloc: Global,
     judge: &J,

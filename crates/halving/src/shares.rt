@@ -20,8 +20,8 @@ pub(crate) struct Share {
     pub(crate) verdict: Verdict,
 }
 
-// A valid node with its verdict.
-fn judged<J: Judge>(judge: &J, node: Node) -> Share
+// Judges a valid node, and returns it with its verdict as a share of the tree.
+fn judged_share<J: Judge>(judge: &J, node: Node) -> Share
     requires { IsValid (J.rules judge.now) node }
     ensures judged { IsJudged (J.rules judge.now) result }
     ensures node { result.node ≡ node }
@@ -32,8 +32,8 @@ fn judged<J: Judge>(judge: &J, node: Node) -> Share
     }
 }
 
-// One share more, at a place.
-fn insert(shares: &mut Vec<Share>, place: usize, share: Share) -> Result<(), RunError>
+// Inserts a share into a list, before the share that has that place. The only error is out of memory.
+fn insert_share(shares: &mut Vec<Share>, place: usize, share: Share) -> Result<(), RunError>
     requires { place ≤ length shares.old.items }
     ensures ok { OnOk result (shares.new.items ≡ insert shares.old.items place share) }
     ensures err { IfErr result (λ e. e ≡ Memory) }
@@ -44,7 +44,7 @@ fn insert(shares: &mut Vec<Share>, place: usize, share: Share) -> Result<(), Run
     }
 }
 
-// The width of a node that is to be split, in ticks; of any other, 0.
+// Returns the width in ticks of a share's node if that node is to be split, and else 0.
 fn split_width(share: Share) -> u64
     ensures { result ≡ split_width share }
 {
@@ -56,8 +56,9 @@ fn split_width(share: Share) -> u64
     }
 }
 
-// The place of the widest share that is to be split, the leftmost on a tie.
-fn widest_split(shares: &[Share]) -> Option<usize>
+// Returns the place of the widest share whose node is to be split, the leftmost of equals, or none if no share is to
+// be split.
+fn place_of_widest_split(shares: &[Share]) -> Option<usize>
     ensures some { IfSome result (IsWidest shares.now) }
     ensures none { IfNone result (NoneIsSplit shares.now) }
 {
@@ -73,7 +74,8 @@ fn widest_split(shares: &[Share]) -> Option<usize>
     if widest > 0 { Some(place) } else { None }
 }
 
-// The share at a place makes room for its two parts.
+// Replaces the share at a place, whose node is to be split, by the shares of its two parts. The only error is out of
+// memory.
 fn cut_share<J: Judge>(judge: &J, shares: &mut Vec<Share>, place: usize) -> Result<(), RunError>
     requires judged { AreJudged (J.rules judge.now) shares.old.items }
     requires widest { IsWidest shares.old.items place }
@@ -86,12 +88,13 @@ fn cut_share<J: Judge>(judge: &J, shares: &mut Vec<Share>, place: usize) -> Resu
     rules_are_sound(judge);
     let share = shares.remove(place);
     let (left, right) = judge.cut(share.node);
-    insert(shares, place, judged(judge, right))?;
-    insert(shares, place, judged(judge, left))
+    insert_share(shares, place, judged_share(judge, right))?;
+    insert_share(shares, place, judged_share(judge, left))
 }
 
-// The root's tree, cut from the top until there are as many shares as workers or none is to be split.
-fn deal<J: Judge>(
+// Cuts the root's tree from the top, the widest node first, and returns its parts as shares. It stops when there is
+// one share for each worker, or no share is to be split. The only error is out of memory.
+fn deal_shares<J: Judge>(
     alloc: Global,
     judge: &J,
     root: Node,
@@ -106,9 +109,9 @@ fn deal<J: Judge>(
     ensures err { IfErr result (λ e. e ≡ Memory) }
 {
     let mut shares = Vec::new(alloc);
-    append(&mut shares, judged(judge, root))?;
+    append(&mut shares, judged_share(judge, root))?;
     while shares.len() < workers as usize {
-        let Some(place) = widest_split(&shares) else {
+        let Some(place) = place_of_widest_split(&shares) else {
             return Ok(shares);
         };
         cut_share(judge, &mut shares, place)?;
@@ -116,8 +119,9 @@ fn deal<J: Judge>(
     Ok(shares)
 }
 
-// The leaves of two neighbours, put one after the other.
-fn put_together(
+// Returns the leaves of two neighbouring parts of a tree, the left ones first, or `TooMany` if they are more than
+// `limit` together. An error of either part is returned, the left one's first.
+fn join_leaves(
     left: Result<Vec<Leaf>, RunError>,
     right: Result<Vec<Leaf>, RunError>,
     limit: u32,
@@ -142,7 +146,8 @@ fn put_together(
     }
 }
 
-// The leaves of all shares. The list is halved until one share is left, and its halves are walked side by side.
+// Returns the leaves of all shares from left to right, or `TooMany` if they are more than `limit`. It halves the list
+// down to single shares, and walks both halves at once in two threads.
 fn walk_shares<R: Threads + Sync, J: Judge>(
     rt: &R,
     alloc: Global,
@@ -171,12 +176,12 @@ fn walk_shares<R: Threads + Sync, J: Judge>(
             ensures { IsWalk (leaves_of (J.rules judge.entry.now) right.entry.now) limit result }
         { walk_shares(rt, alloc, judge, right, limit) },
     );
-    put_together(first, second, limit)
+    join_leaves(first, second, limit)
 }
 
-/// The leaves of a valid root from left to right, or `TooMany` where they are more than `limit`. The tree is cut from
-/// the top into as many shares as there are workers, from 1 to 64, where so many can be had; each is walked as
-/// `run_one` walks it, in threads of their own where such can be made.
+/// Returns the leaves of a valid root's tree from left to right, or `TooMany` if there are more than `limit`, or
+/// `Memory`. The tree is cut from the top into a share for each of 1 to 64 workers. Each share is walked as by
+/// `run_one`, in a thread of its own if one can be made.
 pub fn run_shares<R: Threads + Sync, J: Judge>(
     rt: &R,
     alloc: Global,
@@ -193,7 +198,7 @@ pub fn run_shares<R: Threads + Sync, J: Judge>(
     ensures too_many { result ≡ Err TooMany → limit < leaf_count (J.rules judge.now) root }
 {
     rules_are_sound(judge);
-    let shares = match deal(alloc, judge, root, workers) {
+    let shares = match deal_shares(alloc, judge, root, workers) {
         Ok(shares) => shares,
         Err(e) => return Err(e),
     };

@@ -42,7 +42,7 @@ struct Whole {
     rest: u64,
 }
 
-/// Returns the upper 64 bits of a number.
+/// Returns the upper 64 bits of a number of 128 bits.
 #[inline(always)]
 fn high_half(x: u128) -> u64
     ensures { result ≡ x / 2 ^ 64 }
@@ -50,7 +50,7 @@ fn high_half(x: u128) -> u64
     (x >> 64) as u64
 }
 
-/// Returns the lower 64 bits of a number.
+/// Returns the lower 64 bits of a number of 128 bits.
 #[inline(always)]
 fn low_half(x: u128) -> u64
     ensures { result ≡ x % 2 ^ 64 }
@@ -58,18 +58,18 @@ fn low_half(x: u128) -> u64
     (x % (1 << 64)) as u64
 }
 
-/// Returns the number of 128 bits that has these upper and lower halves.
+/// Returns the number of 128 bits whose upper and lower 64 bits are these.
 #[inline(always)]
-fn joined(high: u64, low: u64) -> u128
+fn join_halves(high: u64, low: u64) -> u128
     ensures { result ≡ high * 2 ^ 64 + low }
 {
     (high as u128) * (1 << 64) + low as u128
 }
 
-/// Divides a number below `seconds * 2^64` by a division of 128 bits. It stands apart from the fast path, which needs
-/// it rarely.
+/// Returns the quotient, rounded down, and the rest of a number below `seconds * 2^64`, by a slow division of 128
+/// bits. The call is not inlined, since the fast path seldom needs it.
 #[inline(never)]
-fn divided(x: u128, seconds: u64) -> Division
+fn divide_in_128_bits(x: u128, seconds: u64) -> Division
     requires positive { 1 ≤ seconds }
     requires size { x < seconds * 2 ^ 64 }
     ensures parts { result.quotient * seconds + result.rest ≡ x }
@@ -82,10 +82,10 @@ fn divided(x: u128, seconds: u64) -> Division
     }
 }
 
-/// Returns the quotient and the rest of a number below `seconds * 2^64`: those of the guess where it is right, else
-/// those of a division.
+/// Returns the quotient by the seconds, rounded down, and the rest of a number below `seconds * 2^64`. If the guess
+/// is that quotient, which one multiplication shows, no division is made.
 #[inline(always)]
-fn checked(x: u128, guess: u64, seconds: u64) -> Division
+fn divide_by_guess(x: u128, guess: u64, seconds: u64) -> Division
     requires positive { 1 ≤ seconds }
     requires size { x < seconds * 2 ^ 64 }
     ensures parts { result.quotient * seconds + result.rest ≡ x }
@@ -98,13 +98,13 @@ fn checked(x: u128, guess: u64, seconds: u64) -> Division
             rest: (x - product) as u64,
         }
     } else {
-        divided(x, seconds)
+        divide_in_128_bits(x, seconds)
     }
 }
 
-/// Returns `z / d` rounded down, from the quotient and the rest of the magnitude of `z`.
+/// Returns `z / d` rounded down, for the divisor `d` of which the magnitude of `z` has this quotient and this rest.
 #[inline(always)]
-pub(crate) fn rounded_down(z: i128, quotient: u128, rest: u128) -> i128
+pub(crate) fn floor_quotient(z: i128, quotient: u128, rest: u128) -> i128
     requires { quotient < 2 ^ 127 }
     ensures { (d : ℕ) → quotient * d + rest ≡ unsigned_abs z → rest < d → result ≡ floor_div z d }
 {
@@ -117,9 +117,9 @@ pub(crate) fn rounded_down(z: i128, quotient: u128, rest: u128) -> i128
     }
 }
 
-/// Returns `z / d` rounded up, from the quotient and the rest of the magnitude of `z`.
+/// Returns `z / d` rounded up, for the divisor `d` of which the magnitude of `z` has this quotient and this rest.
 #[inline(always)]
-pub(crate) fn rounded_up(z: i128, quotient: u128, rest: u128) -> i128
+pub(crate) fn ceil_quotient(z: i128, quotient: u128, rest: u128) -> i128
     requires size { quotient < 2 ^ 127 }
     requires spare { 1 ≤ rest → quotient < 2 ^ 126 }
     ensures { (d : ℕ) → quotient * d + rest ≡ unsigned_abs z → rest < d → result ≡ ceil_div z d }
@@ -134,7 +134,7 @@ pub(crate) fn rounded_up(z: i128, quotient: u128, rest: u128) -> i128
 }
 
 impl Divider {
-    /// Makes the divider by this number of seconds, at least 1, with its inverse.
+    /// Makes the divider by a number of seconds, at least 1, and computes its inverse.
     pub fn of(seconds: i64) -> Divider
         requires { pos 1 ≤ℤ seconds }
         ensures { result ≡ unsigned_abs seconds }
@@ -151,9 +151,11 @@ impl Divider {
         }
     }
 
-    /// Guesses the quotient of a number below `seconds * 2^64`. Nothing is claimed of it, since `checked` tests it.
+    /// Returns a guess of the quotient of a number below `seconds * 2^64`, by a multiplication with the kept inverse
+    /// (Moeller and Granlund, "Improved division by invariant integers"). The contract says nothing of the guess,
+    /// since `divide_by_guess` tests it; `% 64` changes nothing and spares a check of the shift.
     #[inline(always)]
-    fn guess(&self, x: u128) -> u64 {
+    fn guess_quotient(&self, x: u128) -> u64 {
         let y = x << (self.shift % 64);
         let high = high_half(y);
         let estimate = (self.inverse as u128 * high as u128).wrapping_add(y);
@@ -168,41 +170,43 @@ impl Divider {
         }
     }
 
-    /// Returns the quotient and the rest of a number below `seconds * 2^64`.
+    /// Returns the quotient by the seconds, rounded down, and the rest of a number below `seconds * 2^64`. The bound
+    /// keeps the quotient within 64 bits.
     #[inline(always)]
-    fn part(&self, x: u128) -> Division
+    fn divide_short(&self, x: u128) -> Division
         requires { x < self.now * 2 ^ 64 }
         ensures parts { result.quotient * self.now + result.rest ≡ x }
         ensures less { result.rest < self.now }
     {
-        checked(x, self.guess(x), self.seconds)
+        divide_by_guess(x, self.guess_quotient(x), self.seconds)
     }
 
-    /// Returns the quotient and the rest of any number, in one step of 64 bits or two.
+    /// Returns the quotient by the seconds, rounded down, and the rest of any number of 128 bits. One division with a
+    /// quotient of 64 bits is enough if the upper half is below the seconds; else there are two.
     #[inline(always)]
-    fn whole(&self, x: u128) -> Whole
+    fn divide(&self, x: u128) -> Whole
         ensures parts { result.quotient * self.now + result.rest ≡ x }
         ensures less { result.rest < self.now }
         ensures bound { result.quotient ≤ x }
     {
         let (high, low) = (high_half(x), low_half(x));
         if high < self.seconds {
-            let part = self.part(x);
+            let part = self.divide_short(x);
             Whole {
                 quotient: part.quotient as u128,
                 rest: part.rest,
             }
         } else {
-            let first = self.part(high as u128);
-            let second = self.part(joined(first.rest, low));
+            let first = self.divide_short(high as u128);
+            let second = self.divide_short(join_halves(first.rest, low));
             Whole {
-                quotient: joined(first.quotient, second.quotient),
+                quotient: join_halves(first.quotient, second.quotient),
                 rest: second.rest,
             }
         }
     }
 
-    /// Returns `floor(z / seconds)`.
+    /// Returns `z / seconds`, rounded down to a whole number. `z` is below 2^127 in magnitude, and so is the result.
     #[inline(always)]
     pub fn down(&self, z: i128) -> i128
         requires { unsigned_abs z < 2 ^ 127 }
@@ -210,11 +214,11 @@ impl Divider {
         ensures bound { unsigned_abs result < 2 ^ 127 }
         ensures positive { 1 ≤ self.now }
     {
-        let whole = self.whole(z.unsigned_abs());
-        rounded_down(z, whole.quotient, u128::from(whole.rest))
+        let whole = self.divide(z.unsigned_abs());
+        floor_quotient(z, whole.quotient, u128::from(whole.rest))
     }
 
-    /// Returns `ceil(z / seconds)`.
+    /// Returns `z / seconds`, rounded up to a whole number. `z` is below 2^127 in magnitude, and so is the result.
     #[inline(always)]
     pub fn up(&self, z: i128) -> i128
         requires { unsigned_abs z < 2 ^ 127 }
@@ -222,13 +226,14 @@ impl Divider {
         ensures bound { unsigned_abs result < 2 ^ 127 }
         ensures positive { 1 ≤ self.now }
     {
-        let whole = self.whole(z.unsigned_abs());
-        rounded_up(z, whole.quotient, u128::from(whole.rest))
+        let whole = self.divide(z.unsigned_abs());
+        ceil_quotient(z, whole.quotient, u128::from(whole.rest))
     }
 
-    /// Returns `floor(z / seconds)` and `ceil(z / seconds)` by one division.
+    /// Returns `z / seconds` rounded down and rounded up, by one division. `z` is below 2^127 in magnitude, and so
+    /// are both results.
     #[inline(always)]
-    pub fn both(&self, z: i128) -> (i128, i128)
+    pub fn floor_and_ceil(&self, z: i128) -> (i128, i128)
         requires { unsigned_abs z < 2 ^ 127 }
         ensures low { result.0 ≡ floor_div z self.now }
         ensures high { result.1 ≡ ceil_div z self.now }
@@ -236,9 +241,9 @@ impl Divider {
         ensures high_bound { unsigned_abs result.1 < 2 ^ 127 }
         ensures positive { 1 ≤ self.now }
     {
-        let whole = self.whole(z.unsigned_abs());
-        let low = rounded_down(z, whole.quotient, u128::from(whole.rest));
-        let high = rounded_up(z, whole.quotient, u128::from(whole.rest));
+        let whole = self.divide(z.unsigned_abs());
+        let low = floor_quotient(z, whole.quotient, u128::from(whole.rest));
+        let high = ceil_quotient(z, whole.quotient, u128::from(whole.rest));
         (low, high)
     }
 }

@@ -12,9 +12,10 @@ ghost use borrow.Author.Differences.{up, down};
 use crate::decimals::decimal_ends;
 use crate::divider::Divider;
 use crate::ends::{
-    added, ceil_shift, exponent_gap, exponent_rise, floor_shift, greater_exponent, greater_size,
-    half_down, high_end, in_order, is_moderate, is_small, leading_shift, least_shift, lifted,
-    low_end, product_ends, small_end, square_end,
+    ceil_shift, end_in_64_bits, exponent_gap, exponent_rise, floor_half, floor_shift,
+    greater_exponent, greater_magnitude, is_end_magnitude, is_product_magnitude, leading_shift,
+    least_shift, ordered_ends, product_ends, raise_end, shifted_high_end, shifted_low_end,
+    signed_square_of_end, sum_of_ends,
 };
 use spec_intervals::Sign;
 use std::marker::Model;
@@ -53,7 +54,8 @@ impl Model for Ival {
 pub type Enclosure = spec_intervals::Enclosure<Ival>;
 
 impl Ival {
-    /// Returns the three numbers of the interval: low end, high end, exponent of 2.
+    /// Returns the interval's low end, its high end, and the exponent of 2 of both: it holds the numbers from `lo *
+    /// 2^s` to `hi * 2^s`.
     #[inline(always)]
     pub fn parts(&self) -> (i128, i128, i32)
         ensures lo { result.0 ≡ self.now.lo }
@@ -64,14 +66,14 @@ impl Ival {
     }
 
     /// Makes the interval from `lo * 2^s` to `hi * 2^s`, normalized: both ends are halved together, rounded outward,
-    /// until both magnitudes are at most 2^62. Where both ends are 0 the exponent is 0.
+    /// until both magnitudes are at most 2^62. If both ends are 0, the exponent is 0.
     pub fn of(lo: i128, hi: i128, s: i32) -> Ival
         requires ordered { lo ≤ℤ hi }
         requires exponent { IsExponent s }
         ensures equals { result ≡ narrow lo hi s }
         ensures holds { (r : Fraction) → Holds (interval lo hi s) r → Holds result r }
     {
-        narrowed_any(lo, hi, s)
+        normalize_any_ends(lo, hi, s)
     }
 
     /// Returns the interval of 0 alone, with the exponent 0.
@@ -82,8 +84,8 @@ impl Ival {
         Ival { lo: 0, hi: 0, s: 0 }
     }
 
-    /// Makes the interval of `mant * 10^exp` at the exponent `s`, -24 for a length in km and -60 for a cosine,
-    /// rounded down and up. It is not normalized: 0 keeps the exponent `s`.
+    /// Makes the interval of `mant * 10^exp` in units of `2^s`, rounded down and up: an `s` of -24 for a length in
+    /// km, and of -60 for a cosine. It is not normalized, so that a 0 keeps the exponent `s`.
     pub fn from_decimal(mant: i64, exp: i16, s: i32) -> Ival
         requires exponent { (s ≡ distance_exponent) ⊎ (s ≡ cosine_exponent) }
         requires distance { s ≡ distance_exponent → IsDistance mant exp }
@@ -91,10 +93,10 @@ impl Ival {
         ensures equals { result ≡ from_decimal mant exp s }
         ensures holds { Holds result (decimal mant exp) }
     {
-        decimal_at(mant, exp, s)
+        decimal_ival(mant, exp, s)
     }
 
-    /// Tells whether all numbers held are at least 0 (`Yes`), all are below 0 (`No`), or neither is known (`Open`).
+    /// Tells whether all numbers of the interval are at least 0 (`Yes`), all are below 0 (`No`), or neither (`Open`).
     #[inline(always)]
     pub fn sign(&self) -> Sign
         ensures { result ≡ sign_of self.now }
@@ -108,7 +110,8 @@ impl Ival {
         }
     }
 
-    /// Returns the sum: the ends are added at one exponent and normalized. An interval of 0 alone adds nothing.
+    /// Returns the interval of the sums of a number of each interval: the ends are added at one exponent and
+    /// normalized. An interval of 0 alone leaves the other as it is.
     #[inline(always)]
     pub fn add(self, other: Ival) -> Ival
         requires exponent { IsExponent self.s }
@@ -117,10 +120,11 @@ impl Ival {
         ensures holds { (r t : Fraction) → Holds self r → Holds other t
             → Holds result (fraction_add r t) }
     {
-        sum_of(self, other)
+        sum_of_ivals(self, other)
     }
 
-    /// Returns the difference: the sum with the other interval negated.
+    /// Returns the interval of the differences, the first operand less the second: the sum with the second negated.
+    /// An interval of 0 alone is not added.
     #[inline(always)]
     pub fn sub(self, other: Ival) -> Ival
         requires exponent { IsExponent self.s }
@@ -129,10 +133,11 @@ impl Ival {
         ensures holds { (r t : Fraction) → Holds self r → Holds other t
             → Holds result (fraction_sub r t) }
     {
-        difference_of(self, other)
+        difference_of_ivals(self, other)
     }
 
-    /// Returns the product: the least and the greatest of the four products of ends, normalized.
+    /// Returns the interval of the products of a number of each interval: from the least to the greatest of the four
+    /// products of ends, normalized.
     #[inline(always)]
     pub fn mul(self, other: Ival) -> Ival
         requires exponent { IsExponent self.s }
@@ -141,10 +146,11 @@ impl Ival {
         ensures holds { (r t : Fraction) → Holds self r → Holds other t
             → Holds result (fraction_mul r t) }
     {
-        product_of(self, other)
+        product_of_ivals(self, other)
     }
 
-    /// Returns the hull: from the lesser low end to the greater high end, at one exponent and normalized.
+    /// Returns the hull of two intervals: from the lesser low end to the greater high end, at one exponent and
+    /// normalized.
     #[inline(always)]
     pub fn join(self, other: Ival) -> Ival
         requires exponent { IsExponent self.s }
@@ -152,11 +158,11 @@ impl Ival {
         ensures equals { result ≡ join self other }
         ensures holds { (r : Fraction) → Holds self r ⊎ Holds other r → Holds result r }
     {
-        join_of(self, other)
+        hull_of_ivals(self, other)
     }
 
-    /// Returns the intersection: from the greater low end to the lesser high end, at one exponent and normalized. The
-    /// two have to overlap.
+    /// Returns the intersection of two intervals, which have to overlap: from the greater low end to the lesser high
+    /// end, at one exponent and normalized.
     #[inline(always)]
     pub fn meet(self, other: Ival) -> Ival
         requires exponent { IsExponent self.s }
@@ -165,17 +171,18 @@ impl Ival {
         ensures equals { result ≡ meet self other }
         ensures holds { (r : Fraction) → Holds self r → Holds other r → Holds result r }
     {
-        meet_of(self, other)
+        intersection_of_ivals(self, other)
     }
 
-    /// Returns `x |x|`, which keeps the sign and grows with `x`: the signed squares of the ends, normalized.
+    /// Returns the interval of a number times its magnitude, for the numbers of this one: the signed squares of its
+    /// ends, normalized. The sign is kept, and the result grows with the number.
     #[inline(always)]
     pub fn signed_square(self) -> Ival
         requires { IsExponent self.s }
         ensures equals { result ≡ signed_square self }
         ensures holds { (r : Fraction) → Holds self r → Holds result (fraction_signed_square r) }
     {
-        signed_square_of(self)
+        signed_square_of_ival(self)
     }
 
     /// Returns `2 / seconds` times the numbers from `lo * 2^s` to `hi * 2^s`, rounded outward and normalized. The
@@ -192,11 +199,11 @@ impl Ival {
         ensures holds { (r : Fraction) → Holds (interval lo hi s) r
             → Holds result (fraction_scale r (unsigned_abs seconds)) }
     {
-        scaled(lo, hi, s, seconds)
+        scale_ends(lo, hi, s, seconds)
     }
 
-    /// Returns `2 / seconds` times the numbers from `lo * 2^s` to `hi * 2^s`, as `scale` does, by a divider that is
-    /// made once for many intervals.
+    /// Returns `2 / seconds` times the numbers from `lo * 2^s` to `hi * 2^s`, rounded outward and normalized, as
+    /// `scale` does. The divider by the seconds is made once for many intervals.
     #[inline(always)]
     pub fn scale_by(lo: i128, hi: i128, s: i32, divider: &Divider) -> Ival
         requires ordered { lo ≤ℤ hi }
@@ -207,21 +214,22 @@ impl Ival {
         ensures holds { (r : Fraction) → Holds (interval lo hi s) r
             → Holds result (fraction_scale r divider.now) }
     {
-        scaled_by(lo, hi, s, divider)
+        scale_ends_by(lo, hi, s, divider)
     }
 
-    /// Returns the interval at an exponent of at least `s`, rounded outward and normalized.
+    /// Returns the interval at an exponent of at least `s`, its ends rounded outward and normalized. An interval at a
+    /// greater exponent keeps that one.
     pub fn coarsened(self, s: i32) -> Ival
         requires exponent { IsExponent self.s }
         requires other_exponent { IsExponent s }
         ensures { result ≡ coarsened s self }
     {
-        let own = at_exponent(self, s);
-        narrowed(own.lo, own.hi, own.s)
+        let own = raise_ival(self, s);
+        normalize_ends(own.lo, own.hi, own.s)
     }
 
-    /// Returns the sum in the coarser of both units: the ends are added at the greater exponent, rounded outward and
-    /// normalized. An interval of 0 alone adds nothing.
+    /// Returns the sum of two intervals in the coarser of both units: the ends are rounded outward to the greater
+    /// exponent, added and normalized. An interval of 0 alone adds nothing.
     #[tactic(auto, unfolding(spec_models::specs::Bounds::coarse_sum))]
     pub fn coarse_sum(self, other: Ival) -> Ival
         requires exponent { IsExponent self.s }
@@ -233,22 +241,23 @@ impl Ival {
         } else if other.is_zero() {
             self
         } else {
-            raised_sum(self, other)
+            sum_at_greater_exponent(self, other)
         }
     }
 
-    /// Returns the difference in the coarser of both units: the coarse sum with the other interval negated.
+    /// Returns the first interval less the second in the coarser of both units: the coarse sum of the first and the
+    /// second negated.
     pub fn coarse_difference(self, other: Ival) -> Ival
         requires exponent { IsExponent self.s }
         requires other_exponent { IsExponent other.s }
         ensures { result ≡ coarse_difference self other }
     {
-        self.coarse_sum(other.negated())
+        self.coarse_sum(other.negation())
     }
 
-    /// Returns the interval of the negated numbers, with the same exponent.
+    /// Returns the interval of the negated numbers of this one, with the same exponent.
     #[inline(always)]
-    fn negated(self) -> Ival
+    fn negation(self) -> Ival
         ensures { result ≡ negated self }
     {
         Ival {
@@ -267,9 +276,10 @@ impl Ival {
     }
 }
 
-/// Returns the interval of two ends that are not past the limit. The exponent is 0 where both ends are 0.
+/// Returns the interval of two ends at most 2^62 in magnitude, at the exponent `s`. If both ends are 0, the exponent
+/// is 0.
 #[inline(always)]
-fn settle(lo: i64, hi: i64, s: i32) -> Ival
+fn ival_of_ends(lo: i64, hi: i64, s: i32) -> Ival
     requires { IsIval (interval lo hi s) }
     ensures { result ≡ settled lo hi s }
 {
@@ -280,9 +290,10 @@ fn settle(lo: i64, hi: i64, s: i32) -> Ival
     }
 }
 
-/// Halves two ends `k` times, rounded outward. `k` is the least shift that brings both to at most 2^62 in magnitude.
+/// Returns the interval of two ends that are halved `k` times, rounded outward, at an exponent greater by `k`. `k` is
+/// the least shift that brings both ends to at most 2^62 in magnitude.
 #[inline(always)]
-fn halved(lo: i128, hi: i128, s: i32, k: u32) -> Ival
+fn halve_ends(lo: i128, hi: i128, s: i32, k: u32) -> Ival
     requires ordered { lo ≤ℤ hi }
     requires above_least { unsigned_abs hi < 2 ^ 127 }
     requires exponent { unsigned_abs s ≤ 4 * exponent_limit }
@@ -290,94 +301,103 @@ fn halved(lo: i128, hi: i128, s: i32, k: u32) -> Ival
     requires few { k ≤ 66 }
     ensures { result ≡ narrow lo hi s }
 {
-    settle(low_end(lo, k), high_end(hi, k), s + k as i32)
+    ival_of_ends(
+        shifted_low_end(lo, k),
+        shifted_high_end(hi, k),
+        s + k as i32,
+    )
 }
 
-/// Normalizes two ends in order, each at most 2^124 in magnitude, as products and sums of ends are. The shift is
-/// below 64, as `% 64` tells the compiler.
+/// Returns the normalized interval of two ends in order, each at most 2^124 in magnitude, as products and sums of
+/// ends are. `% 64` changes nothing: it tells the compiler that the shift is below 64, so that it emits no check.
 #[inline(always)]
-fn narrowed(lo: i128, hi: i128, s: i32) -> Ival
+fn normalize_ends(lo: i128, hi: i128, s: i32) -> Ival
     requires ordered { lo ≤ℤ hi }
     requires lo_bound { unsigned_abs lo ≤ 2 ^ 124 }
     requires hi_bound { unsigned_abs hi ≤ 2 ^ 124 }
     requires exponent { unsigned_abs s ≤ 4 * exponent_limit }
     ensures { result ≡ narrow lo hi s }
 {
-    let size = greater_size(lo, hi);
-    if is_small(size) {
-        settle(small_end(lo), small_end(hi), s)
+    let size = greater_magnitude(lo, hi);
+    if is_end_magnitude(size) {
+        ival_of_ends(end_in_64_bits(lo), end_in_64_bits(hi), s)
     } else {
-        halved(lo, hi, s, leading_shift(lo, hi, size) % 64)
+        halve_ends(lo, hi, s, leading_shift(lo, hi, size) % 64)
     }
 }
 
-/// Normalizes two ends in order, of which the high one can be negated. Only large ends take the slow path.
-fn narrowed_wide(lo: i128, hi: i128, s: i32) -> Ival
+/// Returns the normalized interval of two ends in order, of which the high one is not -2^127. Only ends past 2^124 in
+/// magnitude take the slow path.
+fn normalize_wide_ends(lo: i128, hi: i128, s: i32) -> Ival
     requires ordered { lo ≤ℤ hi }
     requires above_least { unsigned_abs hi < 2 ^ 127 }
     requires exponent { unsigned_abs s ≤ 4 * exponent_limit }
     ensures { result ≡ narrow lo hi s }
 {
-    if is_moderate(lo) && is_moderate(hi) {
-        narrowed(lo, hi, s)
+    if is_product_magnitude(lo) && is_product_magnitude(hi) {
+        normalize_ends(lo, hi, s)
     } else {
-        halved(lo, hi, s, least_shift(lo, hi))
+        halve_ends(lo, hi, s, least_shift(lo, hi))
     }
 }
 
-/// Normalizes any two ends in order. Where the high end is -2^127 the low end is too, and their halves are exact.
-fn narrowed_any(lo: i128, hi: i128, s: i32) -> Ival
+/// Returns the normalized interval of any two ends in order. If the high end is -2^127, which cannot be negated, so
+/// is the low end, and both are halved first, exactly.
+fn normalize_any_ends(lo: i128, hi: i128, s: i32) -> Ival
     requires ordered { lo ≤ℤ hi }
     requires exponent { IsExponent s }
     ensures { result ≡ narrow lo hi s }
 {
     let is_least = hi == i128::MIN;
     if is_least {
-        narrowed_wide(half_down(lo), half_down(hi), s + 1)
+        normalize_wide_ends(floor_half(lo), floor_half(hi), s + 1)
     } else {
-        narrowed_wide(lo, hi, s)
+        normalize_wide_ends(lo, hi, s)
     }
 }
 
-/// Returns the interval of two ends that are not past the limit, as they are.
-fn exact(lo: i128, hi: i128, s: i32) -> Ival
+/// Returns the interval of two ends at most 2^62 in magnitude, at the exponent `s` even if both ends are 0.
+fn unnormalized_ival(lo: i128, hi: i128, s: i32) -> Ival
     requires { IsIval (interval lo hi s) }
     ensures { result ≡ interval lo hi s }
 {
     Ival {
-        lo: small_end(lo),
-        hi: small_end(hi),
+        lo: end_in_64_bits(lo),
+        hi: end_in_64_bits(hi),
         s,
     }
 }
 
-// Makes the interval of a decimal at the exponent `s`, from -60 to 0, rounded down and up. It is not normalized.
-fn decimal_at(mant: i64, exp: i16, s: i32) -> Ival
+// Returns the interval of the decimal `mant * 10^exp` in units of `2^s`, rounded down and up. `s` is from -60 to 0.
+// The interval is not normalized.
+fn decimal_ival(mant: i64, exp: i16, s: i32) -> Ival
     requires below { s ≤ℤ pos 0 }
     requires above { neg_ℤ (pos 60) ≤ℤ s }
     requires size { unsigned_abs mant * (10 ^ up exp * 2 ^ down s) ≤ 2 ^ 60 * 10 ^ down exp }
     ensures { result ≡ from_decimal mant exp s }
 {
     let (lo, hi) = decimal_ends(mant, exp, s);
-    exact(lo, hi, s)
+    unnormalized_ival(lo, hi, s)
 }
 
-// Returns the product of two intervals, normalized.
+// Returns the normalized product of two intervals: from the least to the greatest product of their numbers.
+// `Ival::mul` adds the promise of what the product holds.
 #[inline(always)]
-fn product_of(x: Ival, y: Ival) -> Ival
+fn product_of_ivals(x: Ival, y: Ival) -> Ival
     requires exponent { IsExponent x.s }
     requires other_exponent { IsExponent y.s }
     ensures { result ≡ product x y }
 {
     let s = x.s + y.s;
     let (lo, hi) = product_ends(x.lo, x.hi, y.lo, y.hi);
-    narrowed(lo, hi, s)
+    normalize_ends(lo, hi, s)
 }
 
-// Returns the sum of two intervals, normalized. An interval of 0 alone adds nothing.
+// Returns the normalized sum of two intervals, in whichever order their exponents are. An interval of 0 alone leaves
+// the other as it is. `Ival::add` adds the promise of what the sum holds.
 #[tactic(auto, unfolding(spec_intervals::specs::Interval::sum))]
 #[inline(always)]
-fn sum_of(x: Ival, y: Ival) -> Ival
+fn sum_of_ivals(x: Ival, y: Ival) -> Ival
     requires exponent { IsExponent x.s }
     requires other_exponent { IsExponent y.s }
     ensures { result ≡ sum x y }
@@ -387,110 +407,116 @@ fn sum_of(x: Ival, y: Ival) -> Ival
     } else if y.is_zero() {
         x
     } else if x.s <= y.s {
-        sum_upward(x, y)
+        sum_with_coarser(x, y)
     } else {
-        sum_upward(y, x)
+        sum_with_coarser(y, x)
     }
 }
 
-/// Returns the sum of two intervals, the first at the lower exponent or the same.
+/// Returns the normalized sum of an interval and one whose exponent is the same or greater.
 #[inline(always)]
-fn sum_upward(x: Ival, y: Ival) -> Ival
+fn sum_with_coarser(x: Ival, y: Ival) -> Ival
     requires order { x.s ≤ℤ y.s }
     requires exponent { IsExponent x.s }
     requires other_exponent { IsExponent y.s }
     ensures { result ≡ sum_up x y }
 {
-    let at = at_one_exponent(x, y);
-    let lo = added(at.lower_lo, at.upper_lo);
-    let hi = added(at.lower_hi, at.upper_hi);
-    narrowed(lo, hi, at.s)
+    let at = align_ends(x, y);
+    let lo = sum_of_ends(at.lower_lo, at.upper_lo);
+    let hi = sum_of_ends(at.lower_hi, at.upper_hi);
+    normalize_ends(lo, hi, at.s)
 }
 
-// Returns the difference of two intervals, normalized.
+// Returns the first interval less the second, normalized: the sum of the first and the second negated. `Ival::sub`
+// adds the promise of what the difference holds.
 #[tactic(auto, unfolding(spec_intervals::specs::Interval::difference))]
 #[inline(always)]
-fn difference_of(x: Ival, y: Ival) -> Ival
+fn difference_of_ivals(x: Ival, y: Ival) -> Ival
     requires exponent { IsExponent x.s }
     requires other_exponent { IsExponent y.s }
     ensures { result ≡ difference x y }
 {
-    sum_of(x, y.negated())
+    sum_of_ivals(x, y.negation())
 }
 
-// Returns the hull of two intervals, normalized.
+// Returns the normalized hull of two intervals, in whichever order their exponents are. `Ival::join` adds the promise
+// of what the hull holds.
 #[tactic(auto, unfolding(spec_intervals::specs::Interval::join))]
 #[inline(always)]
-fn join_of(x: Ival, y: Ival) -> Ival
+fn hull_of_ivals(x: Ival, y: Ival) -> Ival
     requires exponent { IsExponent x.s }
     requires other_exponent { IsExponent y.s }
     ensures { result ≡ join x y }
 {
     if x.s <= y.s {
-        join_upward(x, y)
+        hull_with_coarser(x, y)
     } else {
-        join_upward(y, x)
+        hull_with_coarser(y, x)
     }
 }
 
-/// Returns the hull of two intervals, the first at the lower exponent or the same.
+/// Returns the normalized hull of an interval and one whose exponent is the same or greater.
 #[inline(always)]
-fn join_upward(x: Ival, y: Ival) -> Ival
+fn hull_with_coarser(x: Ival, y: Ival) -> Ival
     requires order { x.s ≤ℤ y.s }
     requires exponent { IsExponent x.s }
     requires other_exponent { IsExponent y.s }
     ensures { result ≡ join_up x y }
 {
-    let at = at_one_exponent(x, y);
-    let lo = in_order(at.lower_lo, at.upper_lo).0;
-    let hi = in_order(at.lower_hi, at.upper_hi).1;
-    narrowed(lo, hi, at.s)
+    let at = align_ends(x, y);
+    let lo = ordered_ends(at.lower_lo, at.upper_lo).0;
+    let hi = ordered_ends(at.lower_hi, at.upper_hi).1;
+    normalize_ends(lo, hi, at.s)
 }
 
-// Returns the intersection of two intervals that overlap, normalized.
+// Returns the normalized intersection of two intervals that overlap, in whichever order their exponents are.
+// `Ival::meet` adds the promise of what the intersection holds.
 #[tactic(auto, unfolding(spec_intervals::specs::Interval::meet))]
 #[inline(always)]
-fn meet_of(x: Ival, y: Ival) -> Ival
+fn intersection_of_ivals(x: Ival, y: Ival) -> Ival
     requires exponent { IsExponent x.s }
     requires other_exponent { IsExponent y.s }
     requires overlap { Overlaps x y }
     ensures { result ≡ meet x y }
 {
     if x.s <= y.s {
-        meet_upward(x, y)
+        intersection_with_coarser(x, y)
     } else {
-        meet_upward(y, x)
+        intersection_with_coarser(y, x)
     }
 }
 
-/// Returns the intersection of two intervals that overlap, the first at the lower exponent or the same.
+/// Returns the normalized intersection of an interval and one that overlaps it, whose exponent is the same or
+/// greater.
 #[inline(always)]
-fn meet_upward(x: Ival, y: Ival) -> Ival
+fn intersection_with_coarser(x: Ival, y: Ival) -> Ival
     requires order { x.s ≤ℤ y.s }
     requires exponent { IsExponent x.s }
     requires other_exponent { IsExponent y.s }
     requires overlap { Overlaps x y }
     ensures { result ≡ meet_up x y }
 {
-    let at = at_one_exponent(x, y);
-    let lo = in_order(at.lower_lo, at.upper_lo).1;
-    let hi = in_order(at.lower_hi, at.upper_hi).0;
-    narrowed(lo, hi, at.s)
+    let at = align_ends(x, y);
+    let lo = ordered_ends(at.lower_lo, at.upper_lo).1;
+    let hi = ordered_ends(at.lower_hi, at.upper_hi).0;
+    normalize_ends(lo, hi, at.s)
 }
 
-// Returns the interval of `x |x|`, normalized.
+// Returns the normalized interval of a number times its magnitude, for the numbers of an interval.
+// `Ival::signed_square` adds the promise of what it holds.
 #[inline(always)]
-fn signed_square_of(x: Ival) -> Ival
+fn signed_square_of_ival(x: Ival) -> Ival
     requires { IsExponent x.s }
     ensures { result ≡ signed_square x }
 {
     let s = x.s + x.s;
-    narrowed(square_end(x.lo), square_end(x.hi), s)
+    normalize_ends(signed_square_of_end(x.lo), signed_square_of_end(x.hi), s)
 }
 
-// Returns `2 / seconds` times the numbers between two ends, rounded outward, by a divider that is made for this call.
+// Returns `2 / seconds` times the numbers from `lo * 2^s` to `hi * 2^s`, rounded outward and normalized, by a divider
+// that is made for this call alone.
 #[inline(always)]
-fn scaled(lo: i128, hi: i128, s: i32, seconds: i64) -> Ival
+fn scale_ends(lo: i128, hi: i128, s: i32, seconds: i64) -> Ival
     requires ordered { lo ≤ℤ hi }
     requires lo_size { unsigned_abs lo < 2 ^ 126 }
     requires hi_size { unsigned_abs hi < 2 ^ 126 }
@@ -499,12 +525,13 @@ fn scaled(lo: i128, hi: i128, s: i32, seconds: i64) -> Ival
     ensures { result ≡ scale lo hi s (unsigned_abs seconds) }
 {
     let divider = Divider::of(seconds);
-    scaled_by(lo, hi, s, &divider)
+    scale_ends_by(lo, hi, s, &divider)
 }
 
-// Returns `2 / seconds` times the numbers between two ends, rounded outward and normalized, by a kept divider.
+// Returns `2 / seconds` times the numbers from `lo * 2^s` to `hi * 2^s`, rounded outward and normalized, by a divider
+// that the caller keeps.
 #[inline(always)]
-fn scaled_by(lo: i128, hi: i128, s: i32, divider: &Divider) -> Ival
+fn scale_ends_by(lo: i128, hi: i128, s: i32, divider: &Divider) -> Ival
     requires ordered { lo ≤ℤ hi }
     requires lo_size { unsigned_abs lo < 2 ^ 126 }
     requires hi_size { unsigned_abs hi < 2 ^ 126 }
@@ -512,7 +539,7 @@ fn scaled_by(lo: i128, hi: i128, s: i32, divider: &Divider) -> Ival
     ensures equals { result ≡ scale lo hi s divider.now }
     ensures positive { 1 ≤ divider.now }
 {
-    narrowed_wide(divider.down(2 * lo), divider.up(2 * hi), s)
+    normalize_wide_ends(divider.down(2 * lo), divider.up(2 * hi), s)
 }
 
 /// The ends of two intervals at one exponent `s`. Those of the lower interval are rounded outward; those of the upper
@@ -526,10 +553,11 @@ struct Aligned {
     s: i32,
 }
 
-/// Brings two intervals to one exponent, the first at the lower exponent or the same. The upper ends rise by at most
-/// 60 bits, which keeps them exact; the lower ends lose the rest.
+/// Returns the ends of two intervals at one exponent, of which `y` has the same exponent as `x` or a greater one. The
+/// ends of `y` are raised by at most 60 bits, which keeps them exact; those of `x` are rounded outward by the bits
+/// that are left.
 #[inline(always)]
-fn at_one_exponent(x: Ival, y: Ival) -> Aligned
+fn align_ends(x: Ival, y: Ival) -> Aligned
     requires order { x.s ≤ℤ y.s }
     requires exponent { IsExponent x.s }
     requires other_exponent { IsExponent y.s }
@@ -540,7 +568,7 @@ fn at_one_exponent(x: Ival, y: Ival) -> Aligned
     let k = d - m;
     let s = x.s + k as i32;
     let (lower_lo, lower_hi) = (floor_shift(x.lo, k), ceil_shift(x.hi, k));
-    let (upper_lo, upper_hi) = (lifted(y.lo, m), lifted(y.hi, m));
+    let (upper_lo, upper_hi) = (raise_end(y.lo, m), raise_end(y.hi, m));
     Aligned {
         lower_lo,
         lower_hi,
@@ -558,9 +586,9 @@ struct Raised {
     s: i32,
 }
 
-/// Brings an interval to an exponent of at least `s`, rounded outward. An interval at a greater exponent stays as it
-/// is.
-fn at_exponent(x: Ival, s: i32) -> Raised
+/// Returns the ends of an interval at an exponent of at least `s`, rounded outward. An interval at a greater exponent
+/// keeps it and its ends.
+fn raise_ival(x: Ival, s: i32) -> Raised
     requires exponent { IsExponent x.s }
     requires other_exponent { IsExponent s }
     ensures { IsRaised s x result }
@@ -574,13 +602,17 @@ fn at_exponent(x: Ival, s: i32) -> Raised
     }
 }
 
-/// Returns the sum of two intervals at the greater of both exponents, rounded outward and normalized.
-fn raised_sum(x: Ival, y: Ival) -> Ival
+/// Returns the sum of two intervals at the greater of both exponents, each rounded outward to it, and normalized.
+fn sum_at_greater_exponent(x: Ival, y: Ival) -> Ival
     requires exponent { IsExponent x.s }
     requires other_exponent { IsExponent y.s }
     ensures { result ≡ raised_sum x y }
 {
     let s = greater_exponent(x.s, y.s);
-    let (own, more) = (at_exponent(x, s), at_exponent(y, s));
-    narrowed(added(own.lo, more.lo), added(own.hi, more.hi), s)
+    let (own, more) = (raise_ival(x, s), raise_ival(y, s));
+    normalize_ends(
+        sum_of_ends(own.lo, more.lo),
+        sum_of_ends(own.hi, more.hi),
+        s,
+    )
 }

@@ -11,7 +11,7 @@ mod ends;
 mod ival;
 mod sizes;
 
-pub use decimals::power_of_ten;
+pub use decimals::{TEN_INVERSES, power_of_ten};
 pub use divider::Divider;
 pub use ends::product_ends;
 pub use ival::{COSINE_EXPONENT, DISTANCE_EXPONENT, Enclosure, Ival};

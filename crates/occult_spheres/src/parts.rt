@@ -4,7 +4,7 @@ ghost use Rattle.spec_kinds.specs.Faults.{is_radius};
 ghost use Rattle.spec_kinds.specs.Shadows.{shadow_function, shadow_conditions};
 ghost use Rattle.occult_spheres.specs.Guards.{condition_of};
 
-use crate::terms::{distance_guard, function, size_guard};
+use crate::terms::{disc_size_guard, distance_guard, occultation_function};
 use event_expr::Formula;
 use spec_kinds::Shadow;
 use spec_text::Decimal;
@@ -16,17 +16,17 @@ pub type Memory = AllocError;
 /// An occultation as formulas.
 #[derive(Drop)]
 pub struct OccultParts {
-    /// The function: it is at least 0 where the discs overlap, or where one of them lies within the other.
+    /// The function: at least 0 while the discs overlap (`Any`), or one lies within the other (`Full`, `Annular`).
     pub f: Formula,
-    /// The guards: formulas, each with whether it has to be at least 0, or else below 0.
+    /// The guards: formulas, each with whether it has to be at least 0 (true) or below 0 (false).
     pub guards: Vec<(Formula, bool)>,
 }
 
-/// Returns the occultation of a sphere of the radius `back` by a sphere of the radius `front`, as SPICE's `gfoclt`
-/// has it. Radii are in km, at least 0 and below 2^36. For an observer outside both spheres the function is at least
-/// 0 exactly where the discs overlap (`Any`), or where one lies within the other (`Full`, `Annular`). The guards say
+/// Returns the occultation of a sphere of the radius `back` by a sphere of the radius `front` as formulas, as SPICE's
+/// `gfoclt` has it. Radii are in km, at least 0 and below 2^36. For an observer outside both spheres the function is at
+/// least 0 exactly while the discs overlap (`Any`), or one lies within the other (`Full`, `Annular`). The guards say
 /// that the front body is no farther than the other, and which disc is the larger. The only error is out of memory.
-pub fn occult(
+pub fn occultation_parts(
     alloc: Global,
     kind: Shadow,
     front: Decimal,
@@ -38,14 +38,15 @@ pub fn occult(
     ensures guards { IfOk result (λ parts. map condition_of parts.guards.items
         ≡ shadow_conditions kind front back) }
 {
-    let f = Formula::of(function(alloc, kind, front, back)?);
-    let guards = guards_of(alloc, kind, front, back)?;
+    let f = Formula::of(occultation_function(alloc, kind, front, back)?);
+    let guards = occultation_guards(alloc, kind, front, back)?;
     Ok(OccultParts { f, guards })
 }
 
-// Returns the guards: formulas, each with whether it has to be at least 0, or else below 0. The only error is out of
-// memory.
-fn guards_of(
+// Returns the guards of an occultation by a sphere of the radius `front` in km: formulas, each with whether it has to
+// be at least 0 (true) or below 0 (false). The front body is no farther than the other; for `Full` its disc is no
+// smaller, for `Annular` it is smaller. The only error is out of memory.
+fn occultation_guards(
     alloc: Global,
     kind: Shadow,
     front: Decimal,
@@ -60,8 +61,8 @@ fn guards_of(
     guards.push((Formula::of(distance_guard(alloc)?), true))?;
     match kind {
         Shadow::Any => {}
-        Shadow::Full => guards.push((Formula::of(size_guard(alloc, front, back)?), true))?,
-        Shadow::Annular => guards.push((Formula::of(size_guard(alloc, front, back)?), false))?,
+        Shadow::Full => guards.push((Formula::of(disc_size_guard(alloc, front, back)?), true))?,
+        Shadow::Annular => guards.push((Formula::of(disc_size_guard(alloc, front, back)?), false))?,
     }
     Ok(guards)
 }

@@ -3,7 +3,7 @@
 ghost use Rattle.std.specs.Prelude.{◌≡◌, IfOk};
 ghost use Rattle.spec_expressions.specs.Term.{term, difference, product};
 ghost use Rattle.spec_expressions.specs.Vectors.{dot, squared_length, IsVector};
-ghost use Rattle.spec_kinds.specs.Shadows.{between, tangents, shadow_function, farther, larger};
+ghost use Rattle.spec_kinds.specs.Shadows.{tangents, shadow_function, farther, larger};
 
 use event_expr::builders::{difference, dot, length, product, signed_square, squared_length, sum};
 use event_expr::{Expr, Vector};
@@ -17,25 +17,13 @@ const FRONT: Vector = Vector::Position(0);
 /// The position of the body at the back.
 const BACK: Vector = Vector::Position(1);
 
-// Returns the dot product of both positions, with the product of the radii added (`Any`) or subtracted.
-fn dot_with_radii(
+// Returns an expression: the product of the squared lengths of the tangents from the observer to both spheres, whose
+// radii are in km. The only error is out of memory.
+fn product_of_squared_tangents(
     alloc: Global,
-    shadow: Shadow,
     front: Decimal,
     back: Decimal,
 ) -> Result<Expr, AllocError>
-    ensures { IfOk result (λ e. term e ≡ between shadow front back) }
-{
-    let places = dot(alloc, FRONT, BACK)?;
-    let radii = product(alloc, length(front), length(back))?;
-    match shadow {
-        Shadow::Any => sum(alloc, places, radii),
-        Shadow::Full | Shadow::Annular => difference(alloc, places, radii),
-    }
-}
-
-// Returns the product of the squares of the tangents from the observer to both spheres.
-fn squared_tangents(alloc: Global, front: Decimal, back: Decimal) -> Result<Expr, AllocError>
     ensures { IfOk result (λ e. term e ≡ tangents front back) }
 {
     let near = squared_tangent(alloc, FRONT, front)?;
@@ -43,7 +31,8 @@ fn squared_tangents(alloc: Global, front: Decimal, back: Decimal) -> Result<Expr
     product(alloc, near, far)
 }
 
-// Returns the square of the tangent from the observer to a sphere: its squared distance less its squared radius.
+// Returns an expression: the squared length, in square km, of a tangent from the observer to the sphere of this radius
+// in km at `place`. It is the squared distance less the squared radius. The only error is out of memory.
 fn squared_tangent(alloc: Global, place: Vector, radius: Decimal) -> Result<Expr, AllocError>
     requires { IsVector place }
     ensures { IfOk result (λ e. term e ≡ difference (dot place place) (squared_length radius)) }
@@ -52,8 +41,10 @@ fn squared_tangent(alloc: Global, place: Vector, radius: Decimal) -> Result<Expr
     difference(alloc, distance, squared_length(alloc, radius)?)
 }
 
-/// Returns the function of an occultation, by what is asked of the discs.
-pub fn function(
+/// Returns the function of an occultation as an expression, which is 0 when the discs touch: a signed square less the
+/// product of both squared tangents. Squared is the dot product of the positions, with the product of the radii in km
+/// added (`Any`) or subtracted (`Full`, `Annular`). The only error is out of memory.
+pub fn occultation_function(
     alloc: Global,
     shadow: Shadow,
     front: Decimal,
@@ -61,31 +52,44 @@ pub fn function(
 ) -> Result<Expr, AllocError>
     ensures { IfOk result (λ e. term e ≡ shadow_function shadow front back) }
 {
-    let square = signed_square(alloc, dot_with_radii(alloc, shadow, front, back)?)?;
-    difference(alloc, square, squared_tangents(alloc, front, back)?)
+    let places = dot(alloc, FRONT, BACK)?;
+    let radii = product(alloc, length(front), length(back))?;
+    let between = match shadow {
+        Shadow::Any => sum(alloc, places, radii)?,
+        Shadow::Full | Shadow::Annular => difference(alloc, places, radii)?,
+    };
+    let square = signed_square(alloc, between)?;
+    difference(
+        alloc,
+        square,
+        product_of_squared_tangents(alloc, front, back)?,
+    )
 }
 
-/// Returns an expression that is at least 0 where the body at the back is no nearer than the one in front.
+/// Returns an expression that is at least 0 while the body at the back is no nearer than the one in front: the squared
+/// distance of the first less that of the second, in square km. The only error is out of memory.
 pub fn distance_guard(alloc: Global) -> Result<Expr, AllocError>
     ensures { IfOk result (λ e. term e ≡ farther) }
 {
     difference(alloc, dot(alloc, BACK, BACK)?, dot(alloc, FRONT, FRONT)?)
 }
 
-/// Returns an expression that is at least 0 where the disc in front is no smaller than the one at the back.
-pub fn size_guard(alloc: Global, front: Decimal, back: Decimal) -> Result<Expr, AllocError>
+/// Returns an expression that is at least 0 while the disc in front is no smaller than the one at the back. Radii are
+/// in km. The only error is out of memory.
+pub fn disc_size_guard(alloc: Global, front: Decimal, back: Decimal) -> Result<Expr, AllocError>
     ensures { IfOk result (λ e. term e ≡ larger front back) }
 {
     difference(
         alloc,
-        disc_size(alloc, front, BACK)?,
-        disc_size(alloc, back, FRONT)?,
+        comparable_disc_size(alloc, front, BACK)?,
+        comparable_disc_size(alloc, back, FRONT)?,
     )
 }
 
-// Returns the square of a radius times the squared distance of the other sphere. Two of these compare the sizes of
-// discs without a division.
-fn disc_size(alloc: Global, radius: Decimal, other: Vector) -> Result<Expr, AllocError>
+// Returns an expression: a sphere's squared radius times the squared distance of the other sphere, which is at `other`.
+// Of two spheres, the one with the greater such product has the larger disc, which is found so without a division. The
+// only error is out of memory.
+fn comparable_disc_size(alloc: Global, radius: Decimal, other: Vector) -> Result<Expr, AllocError>
     requires { IsVector other }
     ensures { IfOk result (λ e. term e ≡ product (squared_length radius) (dot other other)) }
 {

@@ -11,9 +11,9 @@ use std::alloc::{AllocError, Global};
 /// The one error of the calls: out of memory.
 pub type Memory = AllocError;
 
-/// Returns the windows of a book's leaves, put in order of time. The leaves follow one another over the book's root,
-/// without gap or overlap, in whatever order they were entered. Times are ticks of TDB since J2000. The leaves are
-/// sorted once. The only error is out of memory.
+/// Returns the windows that a book's leaves make, in order of time: one for each leaf with an event, and one for each
+/// longest run of undecided leaves. The leaves cover the book's root without gap or overlap, in whatever order they
+/// were entered. Times are ticks of TDB since J2000. The only error is out of memory.
 pub fn windows(alloc: Global, book: &Book) -> Result<Vec<Window>, Memory>
     requires cover { CoverRoot book.now.root book.now.entries.items }
     ensures windows { IfOk result (λ found. found.items ≡ book_windows book.now.entries.items) }
@@ -25,9 +25,8 @@ pub fn windows(alloc: Global, book: &Book) -> Result<Vec<Window>, Memory>
     Ok(found)
 }
 
-/// Returns the leaves of a book, put in order of time. They follow one another over the book's root, without gap or
-/// overlap, in whatever order they were entered. Times are ticks of TDB since J2000. They are sorted once. The only
-/// error is out of memory.
+/// Returns the leaves of a book, sorted by their first times. They cover the book's root without gap or overlap, in
+/// whatever order they were entered. Times are ticks of TDB since J2000. The only error is out of memory.
 pub fn leaves(alloc: Global, book: &Book) -> Result<Vec<Leaf>, Memory>
     requires cover { CoverRoot book.now.root book.now.entries.items }
     ensures leaves { IfOk result (λ found. found.items ≡ ordered_leaves book.now.entries.items) }
@@ -38,7 +37,7 @@ pub fn leaves(alloc: Global, book: &Book) -> Result<Vec<Leaf>, Memory>
     Ok(leaves)
 }
 
-// Returns the leaves of entries, in the order in which they were entered. The only error is out of memory.
+// Returns the leaves of a book's entries, in the order in which they were entered. The only error is out of memory.
 fn leaves_of_entries(alloc: Global, entries: &[Booked]) -> Result<Vec<Leaf>, AllocError>
     ensures { IfOk result (λ leaves. leaves.items ≡ booked_leaves entries.now) }
 {

@@ -24,10 +24,10 @@ mod pool;
 mod step;
 mod worker;
 
-pub use examples::ten_steps_for_four_leaves;
+pub use examples::four_leaves_take_ten_steps;
 pub use laws::{
-    a_done_pool_has_entered_all_leaves, each_step_is_accounted, each_step_lowers_todo_by_one,
-    every_run_balances, every_run_conserves, some_step_is_accepted,
+    a_done_pool_has_entered_all_leaves, each_step_is_accounted_for, each_step_lowers_todo_by_one,
+    every_run_balances_accounts, every_run_tiles_the_root, some_step_is_accepted,
 };
 pub use pool::Pool;
 pub use step::Step;

@@ -36,8 +36,8 @@ impl<J: Judge> Model for Pool<J> {
         Conserves (J.rules p.judge) p.root (state p.workers.items p.entered.items) };
 }
 
-// Makes the workers at the start: the first has the root in its hand, the others hold nothing. The only error is out
-// of memory.
+// Makes the given number of workers of a new pool: the first has the root in its hand, the others hold nothing. The
+// only error is out of memory.
 fn opening_workers(alloc: Global, root: Node, workers: u32) -> Result<Vec<Worker>, Memory>
     requires { 1 ≤ workers }
     ensures { IfOk result (λ made. made.items ≡ (opening root workers).workers) }
@@ -51,7 +51,8 @@ fn opening_workers(alloc: Global, root: Node, workers: u32) -> Result<Vec<Worker
 }
 
 impl<J: Judge + Drop> Pool<J> {
-    /// Makes a pool of 1 to 64 workers, with a valid root in the hand of worker 0. The only error is out of memory.
+    /// Makes a pool of 1 to 64 workers that has entered no leaf. Worker 0 has the valid root in its hand, and the
+    /// others hold nothing. The only error is out of memory.
     pub fn new(alloc: Global, judge: J, root: Node, workers: u32) -> Result<Pool<J>, Memory>
         requires workers { (1 ≤ workers) × (workers ≤ 64) }
         requires root { IsValid (J.rules judge) root }
@@ -68,8 +69,8 @@ impl<J: Judge + Drop> Pool<J> {
 }
 
 impl<J: Judge> Pool<J> {
-    /// Takes a step. It is `Refused` where its condition is false or a number is past the workers. The pool is
-    /// unchanged after a refusal, and where memory ran out.
+    /// Takes one step, as the model defines it, of the workers that the step names. The error is `Refused` if the
+    /// step's condition is false or no worker has such a number, or `Memory`. The pool is unchanged after an error.
     pub fn step(&mut self, step: Step) -> Result<(), StepError>
         ensures ok { OnOk result (Takes (J.rules self.old.judge) self.old step self.new) }
         ensures refused { IsRefusal (J.rules self.old.judge) self.old step result }
@@ -77,31 +78,32 @@ impl<J: Judge> Pool<J> {
         ensures same { self.new ≡ record self.old { state = self.new.state } }
     {
         match step {
-            Step::Push { w } => self.take_own(w, OwnStep::Push),
-            Step::Keep { w } => self.take_own(w, OwnStep::Keep),
-            Step::Pop { w } => self.take_own(w, OwnStep::Pop),
-            Step::TakeKept { w } => self.take_own(w, OwnStep::TakeKept),
-            Step::Steal { w, from } => self.steal(w, from),
-            Step::Enter { w } => self.enter(w),
+            Step::Push { w } => self.take_own_step(w, OwnStep::Push),
+            Step::Keep { w } => self.take_own_step(w, OwnStep::Keep),
+            Step::Pop { w } => self.take_own_step(w, OwnStep::Pop),
+            Step::TakeKept { w } => self.take_own_step(w, OwnStep::TakeKept),
+            Step::Steal { w, from } => self.steal_node(w, from),
+            Step::Enter { w } => self.enter_leaf(w),
         }
     }
 
-    /// Returns the leaves that are entered so far, in order of arrival.
-    pub fn entered(&self) -> &[Leaf]
+    /// Returns the leaves that were entered so far, in order of arrival.
+    pub fn entered_leaves(&self) -> &[Leaf]
         ensures { result.now ≡ self.now.state.entered }
     {
         self.entered.as_slice()
     }
 
-    /// Tells whether all hands, deques and local stacks are empty.
+    /// Tells whether no worker holds a node: all hands, deques and local stacks are empty.
     pub fn is_done(&self) -> bool
         ensures { IsTrue result ↔ IsDone self.now.state }
     {
         self.workers.iter().all(|worker| worker.is_empty())
     }
 
-    // Lets worker `w` take a step that changes only what it holds itself. The pool is unchanged after an error.
-    fn take_own(&mut self, w: u32, step: OwnStep) -> Result<(), StepError>
+    // Lets worker `w` take a step that changes only what that worker holds. The error is `Refused` if there is no such
+    // worker or the step's condition is false, or `Memory`. The pool is unchanged after an error.
+    fn take_own_step(&mut self, w: u32, step: OwnStep) -> Result<(), StepError>
         ensures ok { OnOk result (Takes (J.rules self.old.judge) self.old (own_step w step) self.new) }
         ensures refused { IsRefusal (J.rules self.old.judge) self.old (own_step w step) result }
         ensures unchanged { OnErr result (self.new ≡ self.old) }
@@ -116,9 +118,10 @@ impl<J: Judge> Pool<J> {
         worker.take_own_step(&self.judge, step)
     }
 
-    // Lets worker `w` take the front of the deque of worker `from` into its empty hand. The pool is unchanged after
-    // an error.
-    fn steal(&mut self, w: u32, from: u32) -> Result<(), StepError>
+    // Lets worker `w` move the node at the front of worker `from`'s deque into its own hand. The error is `Refused` if
+    // the two are the same worker, one of them does not exist, the hand already holds a node, or the deque is empty.
+    // The pool is unchanged then.
+    fn steal_node(&mut self, w: u32, from: u32) -> Result<(), StepError>
         ensures ok { OnOk result (Takes (J.rules self.old.judge) self.old (Steal w from) self.new) }
         ensures refused { IsRefusal (J.rules self.old.judge) self.old (Steal w from) result }
         ensures unchanged { OnErr result (self.new ≡ self.old) }
@@ -128,8 +131,9 @@ impl<J: Judge> Pool<J> {
         move_front(&mut self.workers, w as usize, from as usize)
     }
 
-    // Lets worker `w` enter the leaf in its hand. The pool is unchanged after an error.
-    fn enter(&mut self, w: u32) -> Result<(), StepError>
+    // Lets worker `w` append the leaf in its hand to the entered leaves, and empties that hand. The error is `Refused`
+    // if there is no such worker or no leaf in its hand, or `Memory`. The pool is unchanged after an error.
+    fn enter_leaf(&mut self, w: u32) -> Result<(), StepError>
         ensures ok { OnOk result (Takes (J.rules self.old.judge) self.old (Enter w) self.new) }
         ensures refused { IsRefusal (J.rules self.old.judge) self.old (Enter w) result }
         ensures unchanged { OnErr result (self.new ≡ self.old) }
@@ -140,19 +144,20 @@ impl<J: Judge> Pool<J> {
         if at >= self.workers.len() {
             return Err(StepError::Refused);
         }
-        let Some(leaf) = self.workers[at].leaf(&self.judge) else {
+        let Some(leaf) = self.workers[at].leaf_in_hand(&self.judge) else {
             return Err(StepError::Refused);
         };
         let Ok(()) = self.entered.push(leaf) else {
             return Err(StepError::Memory);
         };
-        self.workers[at].empty_hand();
+        self.workers[at].clear_hand();
         Ok(())
     }
 }
 
-// Moves the front of one worker's deque into another's empty hand. It is refused where the two are the same, one is
-// past the workers, the hand is not empty, or the deque is.
+// Moves the node at the front of worker `from`'s deque into worker `at`'s hand. The error is `Refused` if the two are
+// the same worker, one of them does not exist, the hand already holds a node, or the deque is empty. Nothing changes
+// then.
 fn move_front(workers: &mut [Worker], at: usize, from: usize) -> Result<(), StepError>
     ensures ok { OnOk result (Steals at from workers.old workers.new) }
     ensures refused { OnErr result ((ys : List Holding) → ¬ Steals at from workers.old ys) }
@@ -161,7 +166,7 @@ fn move_front(workers: &mut [Worker], at: usize, from: usize) -> Result<(), Step
     if at == from || at >= workers.len() || from >= workers.len() {
         return Err(StepError::Refused);
     }
-    if !workers[at].is_free() {
+    if !workers[at].has_empty_hand() {
         return Err(StepError::Refused);
     }
     let Some(node) = workers[from].take_front() else {
@@ -171,7 +176,7 @@ fn move_front(workers: &mut [Worker], at: usize, from: usize) -> Result<(), Step
     Ok(())
 }
 
-// Appends a worker. The only error is out of memory.
+// Appends a worker to a list of workers. The only error is out of memory, as a `Memory` of the pool's model.
 fn add_worker(made: &mut Vec<Worker>, worker: Worker) -> Result<(), Memory>
     ensures { OnOk result (made.new.items ≡ made.old.items ++ worker ∷ []) }
 {

@@ -43,7 +43,7 @@ impl Model for Worker {
 }
 
 impl Worker {
-    /// Makes a worker with an empty deque and an empty local stack. The hand may hold a node.
+    /// Makes a worker that holds the given node in its hand, or nothing, and whose deque and local stack are empty.
     pub fn new(alloc: Global, hand: Option<Node>) -> Worker
         ensures { result ≡ holding hand [] [] }
     {
@@ -61,8 +61,8 @@ impl Worker {
         self.hand.is_none() && self.deque.is_empty() && self.kept.is_empty()
     }
 
-    /// Takes a step that changes only what this worker holds. It is refused where its condition is false; after an
-    /// error nothing has changed.
+    /// Takes a step that changes only what this worker holds. The error is `Refused` if the step's condition is false,
+    /// or `Memory`, and the worker is unchanged then.
     pub fn take_own_step<J: Judge>(&mut self, judge: &J, step: OwnStep) -> Result<(), StepError>
         requires { HoldsValid (J.rules judge.now) self.old }
         ensures ok { OnOk result (Goes (J.rules judge.now) step self.old self.new) }
@@ -70,15 +70,16 @@ impl Worker {
         ensures unchanged { OnErr result (self.new ≡ self.old) }
     {
         match step {
-            OwnStep::Push => self.push(judge),
-            OwnStep::Keep => self.keep(judge),
-            OwnStep::Pop => self.pop(),
-            OwnStep::TakeKept => self.take_kept(),
+            OwnStep::Push => self.push_right_part(judge),
+            OwnStep::Keep => self.keep_right_part(judge),
+            OwnStep::Pop => self.pop_deque(),
+            OwnStep::TakeKept => self.pop_local_stack(),
         }
     }
 
-    // Returns the two parts of the node in the hand. None where the hand is empty or the node is a leaf.
-    fn split_parts<J: Judge>(&self, judge: &J) -> Option<(Node, Node)>
+    // Returns the left and the right part of the node in the hand, if the judge splits that node. None if the hand is
+    // empty or its node is a leaf.
+    fn parts_of_hand<J: Judge>(&self, judge: &J) -> Option<(Node, Node)>
         requires { HoldsValid (J.rules judge.now) self.now }
         ensures some { IfSome result (HoldsSplit (J.rules judge.now) self.now) }
         ensures none { IfNone result (HoldsNoSplit (J.rules judge.now) self.now) }
@@ -90,15 +91,15 @@ impl Worker {
         Some(judge.cut(node))
     }
 
-    // Splits the node in the hand: the right part goes to the back of the deque, the left part stays in the hand. It
-    // is refused where the hand has no node to split.
-    fn push<J: Judge>(&mut self, judge: &J) -> Result<(), StepError>
+    // Splits the node in the hand: the right part goes to the back of the deque, the left part stays in the hand. The
+    // error is `Refused` if the hand holds no node to split, or `Memory`, and nothing changes then.
+    fn push_right_part<J: Judge>(&mut self, judge: &J) -> Result<(), StepError>
         requires { HoldsValid (J.rules judge.now) self.old }
         ensures ok { OnOk result (Pushes (J.rules judge.now) self.old self.new) }
         ensures refused { IfRefused result (IsStuck (Pushes (J.rules judge.now)) self.old) }
         ensures unchanged { OnErr result (self.new ≡ self.old) }
     {
-        let Some((left, right)) = self.split_parts(judge) else {
+        let Some((left, right)) = self.parts_of_hand(judge) else {
             return Err(StepError::Refused);
         };
         if self.deque.push_back(right).is_err() {
@@ -108,15 +109,15 @@ impl Worker {
         Ok(())
     }
 
-    // Splits the node in the hand: the right part goes on top of the local stack, the left part stays in the hand. It
-    // is refused where the hand has no node to split.
-    fn keep<J: Judge>(&mut self, judge: &J) -> Result<(), StepError>
+    // Splits the node in the hand: the right part goes on top of the local stack, the left part stays in the hand. The
+    // error is `Refused` if the hand holds no node to split, or `Memory`, and nothing changes then.
+    fn keep_right_part<J: Judge>(&mut self, judge: &J) -> Result<(), StepError>
         requires { HoldsValid (J.rules judge.now) self.old }
         ensures ok { OnOk result (Keeps (J.rules judge.now) self.old self.new) }
         ensures refused { IfRefused result (IsStuck (Keeps (J.rules judge.now)) self.old) }
         ensures unchanged { OnErr result (self.new ≡ self.old) }
     {
-        let Some((left, right)) = self.split_parts(judge) else {
+        let Some((left, right)) = self.parts_of_hand(judge) else {
             return Err(StepError::Refused);
         };
         if self.kept.push(right).is_err() {
@@ -126,8 +127,9 @@ impl Worker {
         Ok(())
     }
 
-    // Takes the front of the deque into the empty hand. It is refused where the hand is not empty, or the deque is.
-    fn pop(&mut self) -> Result<(), StepError>
+    // Moves the node at the front of the deque into the empty hand. The error is `Refused` if the hand already holds a
+    // node or the deque is empty, and nothing changes then.
+    fn pop_deque(&mut self) -> Result<(), StepError>
         ensures ok { OnOk result (Pops self.old self.new) }
         ensures refused { OnErr result (IsStuck Pops self.old) }
         ensures unchanged { OnErr result (self.new ≡ self.old) }
@@ -142,9 +144,9 @@ impl Worker {
         Ok(())
     }
 
-    // Takes the top of the local stack into the empty hand. It is refused where the hand is not empty, or the stack
-    // is.
-    fn take_kept(&mut self) -> Result<(), StepError>
+    // Moves the node on top of the local stack into the empty hand. The error is `Refused` if the hand already holds a
+    // node or the stack is empty, and nothing changes then.
+    fn pop_local_stack(&mut self) -> Result<(), StepError>
         ensures ok { OnOk result (TakesKept self.old self.new) }
         ensures refused { OnErr result (IsStuck TakesKept self.old) }
         ensures unchanged { OnErr result (self.new ≡ self.old) }
@@ -159,14 +161,14 @@ impl Worker {
         Ok(())
     }
 
-    /// Tells whether the hand is empty.
-    pub fn is_free(&self) -> bool
+    /// Tells whether the worker's hand is empty, so that it may take a node.
+    pub fn has_empty_hand(&self) -> bool
         ensures { IsTrue result ↔ (self.now.hand ≡ None) }
     {
         self.hand.is_none()
     }
 
-    /// Hands out the node at the front of the deque, or none where the deque is empty.
+    /// Removes the node at the front of the deque and returns it, or returns none if the deque is empty.
     pub fn take_front(&mut self) -> Option<Node>
         ensures some { IfSome result (λ n. GivesUp n self.old self.new) }
         ensures none { IfNone result ((n : Node) (y : Holding) → ¬ GivesUp n self.old y) }
@@ -175,7 +177,7 @@ impl Worker {
         self.deque.pop_front()
     }
 
-    /// Takes a node into the empty hand.
+    /// Puts a node into the hand, which has to be empty.
     pub fn take_into_hand(&mut self, node: Node)
         requires { self.old.hand ≡ None }
         ensures { Gets node self.old self.new }
@@ -183,8 +185,9 @@ impl Worker {
         self.hand = Some(node);
     }
 
-    /// Returns the leaf that the node in the hand is. None where the hand is empty or the node is to be split.
-    pub fn leaf<J: Judge>(&self, judge: &J) -> Option<Leaf>
+    /// Returns the node in the hand with the mark that the judge gives it, as a leaf. None if the hand is empty or the
+    /// judge splits its node. The hand keeps the node.
+    pub fn leaf_in_hand<J: Judge>(&self, judge: &J) -> Option<Leaf>
         requires { HoldsValid (J.rules judge.now) self.now }
         ensures some { IfSome result (λ l. HoldsLeaf (J.rules judge.now) self.now l) }
         ensures none { IfNone result (HoldsNoLeaf (J.rules judge.now) self.now) }
@@ -194,8 +197,8 @@ impl Worker {
         Some(Leaf { node, mark })
     }
 
-    /// Empties the hand.
-    pub fn empty_hand(&mut self)
+    /// Empties the hand, whose node was entered as a leaf.
+    pub fn clear_hand(&mut self)
         ensures { self.new ≡ empty_handed self.old }
     {
         self.hand = None;

@@ -1,5 +1,5 @@
 -- The rules of the tests' judges, which are sound.
-use Rattle.std.proofs.Common.{◌≡◌, ◌<◌, Bool, ◌&&◌, ℤ, pos, neg_ℤ, ◌-ℤ◌, ◌<ℤ◌, int_div, int_lt, nat_lt, if◌then◌else◌, refl, arith}
+use Rattle.std.proofs.Common.{◌≡◌, ◌<◌, ℕ, Bool, ◌&&◌, ℤ, pos, neg_ℤ, ◌-ℤ◌, ◌<ℤ◌, int_div, int_lt, nat_lt, if◌then◌else◌, refl, arith}
 use Rattle.std.proofs.lemmas.Int.{ints}
 use Rattle.std.specs.Int.{int_max}
 use Rattle.spec_trees.specs.declared.cuts.CutRule.TheVariants.{Third}
@@ -13,18 +13,22 @@ use Rattle.pool_core.specs.Examples.{crossing_in, crossing_in_is_sound}
 abbrev pub span : ℤ → ℤ → Node
 span a b = record { a = a; b = b; depth = 0 }
 
+-- a tree from time 0 to `last`: nodes are split where a test holds, down to a depth
+abbrev tree_to : ℤ → ℕ → (Node → Bool) → (Node → Node × Node) → Rules
+tree_to last deepest is_split parts = record {
+  first = pos 0;
+  last = last;
+  deepest = deepest;
+  verdict = λ n. if is_split n then Split else Clear;
+  parts = parts;
+}
+
 -- ---- a comb: each node wider than one tick loses its last tick, and the tree is as deep as the root is wide
 abbrev pub is_comb : Node → Bool
 is_comb n = int_lt (pos 1) (n.b -ℤ n.a) && nat_lt n.depth 20000
 
 abbrev pub comb : Rules
-comb = record {
-  first = pos 0;
-  last = pos 20000;
-  deepest = 20000;
-  verdict = λ n. if is_comb n then Split else Clear;
-  parts = λ n. parts_at (n.b -ℤ pos 1) n;
-}
+comb = tree_to (pos 20000) 20000 is_comb (λ n. parts_at (n.b -ℤ pos 1) n)
 
 comb_wide : (n : Node) → comb.verdict n ≡ Split → (pos 1 <ℤ (n.b -ℤ n.a)) × (n.depth < 20000)
 comb_wide n e = grind (arith, ints)
@@ -71,13 +75,7 @@ abbrev pub is_stair : Node → Bool
 is_stair n = int_lt n.a (pos 1) && int_lt (pos 1) n.b
 
 abbrev pub stairs : Rules
-stairs = record {
-  first = pos 0;
-  last = pos 100;
-  deepest = 0;
-  verdict = λ n. if is_stair n then Split else Clear;
-  parts = λ n. (span n.a (n.b -ℤ pos 1), span (n.b -ℤ pos 1) n.b);
-}
+stairs = tree_to (pos 100) 0 is_stair (λ n. (span n.a (n.b -ℤ pos 1), span (n.b -ℤ pos 1) n.b))
 
 stair_is_wide : (n : Node) → stairs.verdict n ≡ Split → (n.a <ℤ pos 1) × (pos 1 <ℤ n.b)
 stair_is_wide n e = grind (arith, ints)

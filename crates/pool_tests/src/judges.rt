@@ -6,14 +6,14 @@ ghost use Rattle.pool_tests.specs.Judges.{comb, comb_is_sound, long_crossing, lo
 use gf_hooks::{CutRule, rule_cut};
 use halving::{Judge, Node, Turn, Verdict};
 
-/// Returns a root from `a` to `b`, at depth 0.
-pub fn span(a: i64, b: i64) -> Node
+/// Returns the node from time `a` to `b` at depth 0, as the root of a tree.
+pub fn root_node(a: i64, b: i64) -> Node
     ensures { result ≡ span a b }
 {
     Node { a, b, depth: 0 }
 }
 
-// Returns the two parts of a node that is cut at a time, one level deeper.
+// Returns the left and the right part of a node that is cut at a time, both one level deeper than the node.
 fn parts_at(time: i64, node: Node) -> (Node, Node)
     requires { node.depth < 20000 }
     ensures { result ≡ parts_at time node }
@@ -39,7 +39,7 @@ pub struct Comb;
 impl Judge for Comb {
     ghost rules = { λ _. comb };
 
-    // Splits a node that is wider than one tick, down to depth 20,000. Any other is clear.
+    // Splits a node that is wider than one tick, down to depth 20,000. Any other node is clear.
     fn judge(&self, node: Node) -> Verdict {
         if node.b - node.a > 1 && node.depth < 20_000 {
             Verdict::Split
@@ -62,7 +62,7 @@ pub struct Thirds;
 impl Judge for Thirds {
     ghost rules = { λ _. thirds };
 
-    // Splits a node that is wider than two ticks, down to depth 100. Any other is clear.
+    // Splits a node that is wider than two ticks, down to depth 100. Any other node is clear.
     fn judge(&self, node: Node) -> Verdict {
         if node.b - node.a > 2 && node.depth < 100 {
             Verdict::Split
@@ -86,8 +86,8 @@ pub struct Crossing;
 impl Judge for Crossing {
     ghost rules = { λ _. long_crossing };
 
-    // Splits a node that holds second 1339200 and is wider than 50 seconds. A narrower one has a rise, and any other
-    // is clear.
+    // Splits a node that has second 1339200 and is wider than 50 seconds. A narrower one with that second has a rise,
+    // and any other is clear.
     fn judge(&self, node: Node) -> Verdict {
         if node.a < 1_339_200 && 1_339_200 <= node.b {
             if node.b - node.a > 50 && node.depth < 100 {
@@ -100,7 +100,7 @@ impl Judge for Crossing {
         }
     }
 
-    // Halves a node, rounded down.
+    // Cuts a node at its middle, rounded down.
     fn cut(&self, node: Node) -> (Node, Node) {
         parts_at(rule_cut(CutRule::Half, node.a, node.b), node)
     }
@@ -114,7 +114,7 @@ pub struct Stairs;
 impl Judge for Stairs {
     ghost rules = { λ _. stairs };
 
-    // Splits a node that has second 1 strictly inside. Any other is clear.
+    // Splits a node that has second 1 strictly inside. Any other node is clear.
     fn judge(&self, node: Node) -> Verdict {
         if node.a < 1 && 1 < node.b {
             Verdict::Split
@@ -125,8 +125,8 @@ impl Judge for Stairs {
 
     // Cuts a node before its last second, at the same depth.
     fn cut(&self, node: Node) -> (Node, Node) {
-        let left = span(node.a, node.b - 1);
-        let right = span(node.b - 1, node.b);
+        let left = root_node(node.a, node.b - 1);
+        let right = root_node(node.b - 1, node.b);
         (left, right)
     }
 

@@ -24,7 +24,7 @@ const THOUSANDS: Node = Node {
     depth: 0,
 };
 
-// Returns the leaf of the second after `time`.
+// Returns a clear leaf of one second, from `time` to the second after it.
 fn leaf_at(time: u32) -> Leaf
     requires { time < 64000 }
     ensures begins { result.node.a ≡ pos time }
@@ -41,8 +41,8 @@ fn leaf_at(time: u32) -> Leaf
     }
 }
 
-// Tells whether the ledger gives this answer where the leaf of the second after `time` is entered.
-fn answers<R: Wait>(
+// Enters the leaf of one second from `time` on into the ledger, and tells whether the ledger gives this answer.
+fn enters_with_answer<R: Wait>(
     rt: &R,
     ledger: &SpanLedger,
     seat: &mut LedgerSeat,
@@ -57,9 +57,10 @@ fn answers<R: Wait>(
     ledger.enter(rt, seat, leaf_at(time)) == answer
 }
 
-// Shows that a ledger with a limit of two refuses a third leaf and knows a leaf that stands.
+// Shows what a ledger with a limit of two leaves answers: the first two leaves get places 0 and 1, an equal leaf is
+// told the place of the one that is there, also when the ledger is full, and a third leaf is refused.
 #[test]
-fn limit_of_two(rt: HostRuntime) -> Result<(), Fail> {
+fn a_limit_of_two_refuses_a_third_leaf(rt: HostRuntime) -> Result<(), Fail> {
     let Ok((ledger, mut seats)) = SpanLedger::new(rt.alloc(), HUNDRED, 2, 2) else {
         assert!(rt; false);
         return Ok(());
@@ -71,20 +72,20 @@ fn limit_of_two(rt: HostRuntime) -> Result<(), Fail> {
         return Ok(());
     };
     let zeroth = Entry::Entered { place: 0 };
-    assert!(rt; answers(&rt, &ledger, &mut first, 5, zeroth));
+    assert!(rt; enters_with_answer(&rt, &ledger, &mut first, 5, zeroth));
     let again = Entry::Again { place: 0 };
-    assert!(rt; answers(&rt, &ledger, &mut second, 5, again));
+    assert!(rt; enters_with_answer(&rt, &ledger, &mut second, 5, again));
     let next = Entry::Entered { place: 1 };
-    assert!(rt; answers(&rt, &ledger, &mut second, 4, next));
-    assert!(rt; answers(&rt, &ledger, &mut first, 6, Entry::Full));
+    assert!(rt; enters_with_answer(&rt, &ledger, &mut second, 4, next));
+    assert!(rt; enters_with_answer(&rt, &ledger, &mut first, 6, Entry::Full));
     let again = Entry::Again { place: 1 };
-    assert!(rt; answers(&rt, &ledger, &mut first, 4, again));
+    assert!(rt; enters_with_answer(&rt, &ledger, &mut first, 4, again));
     Ok(())
 }
 
-// Shows that a ledger whose seats are not all there is not closed, and says how many were given.
+// Shows that a ledger of two seats, of which one is given back, is not closed, and that the error says so.
 #[test]
-fn missing_seat(rt: HostRuntime) -> Result<(), Fail> {
+fn a_missing_seat_is_reported(rt: HostRuntime) -> Result<(), Fail> {
     let Ok((ledger, mut seats)) = SpanLedger::new(rt.alloc(), HUNDRED, 2, 2) else {
         assert!(rt; false);
         return Ok(());
@@ -98,8 +99,8 @@ fn missing_seat(rt: HostRuntime) -> Result<(), Fail> {
     Ok(())
 }
 
-// Enters the thousand leaves that belong to the seat's number.
-fn enter_thousand<R: Wait>(rt: &R, ledger: &SpanLedger, seat: &mut LedgerSeat)
+// Enters a thousand leaves of one second each, the first of which starts at a thousand times the seat's number.
+fn enter_thousand_leaves<R: Wait>(rt: &R, ledger: &SpanLedger, seat: &mut LedgerSeat)
     requires ours { IsSeatOf ledger.now seat.old }
     requires root { IsThousands ledger.now }
     ensures { IsSeatOf ledger.now seat.new }
@@ -110,8 +111,8 @@ fn enter_thousand<R: Wait>(rt: &R, ledger: &SpanLedger, seat: &mut LedgerSeat)
     }
 }
 
-// Lets all seats enter their leaves at once, each in a thread.
-fn enter_all<R: Threads + Wait + Sync>(rt: &R, ledger: &SpanLedger, seats: &mut [LedgerSeat])
+// Lets each seat enter its own thousand leaves of one second, all seats at the same time, each in a thread.
+fn enter_all_leaves<R: Threads + Wait + Sync>(rt: &R, ledger: &SpanLedger, seats: &mut [LedgerSeat])
     requires ours { All (IsSeatOf ledger.now) seats.old }
     requires root { IsThousands ledger.now }
     ensures { All (IsSeatOf ledger.now) seats.new }
@@ -123,12 +124,12 @@ fn enter_all<R: Threads + Wait + Sync>(rt: &R, ledger: &SpanLedger, seats: &mut 
         &|_, seat: &mut LedgerSeat|
             requires { IsSeatOf ledger.now seat.now × IsThousands ledger.now }
             ensures { IsSeatOf ledger.entry.now seat.exit.now }
-        { enter_thousand(rt, ledger, seat) },
+        { enter_thousand_leaves(rt, ledger, seat) },
     );
 }
 
-// Counts the entries that the first seat made.
-fn first_entries(entries: &[Booked]) -> u32 {
+// Returns how many of the entries of a book the seat with number 0 made.
+fn entry_count_of_first_seat(entries: &[Booked]) -> u32 {
     let mut count = 0u32;
     for entry in entries {
         if entry.seat == 0 {
@@ -138,19 +139,20 @@ fn first_entries(entries: &[Booked]) -> u32 {
     count
 }
 
-// Shows that two threads enter two thousand leaves, of which each stands once.
+// Shows that two threads, each with a seat, enter two thousand different leaves, a thousand each, and that the closed
+// book has all of them.
 #[test]
-fn two_threads(rt: HostRuntime) -> Result<(), Fail> {
+fn two_threads_enter_each_leaf_once(rt: HostRuntime) -> Result<(), Fail> {
     let Ok((ledger, mut seats)) = SpanLedger::new(rt.alloc(), THOUSANDS, 5000, 2) else {
         assert!(rt; false);
         return Ok(());
     };
-    enter_all(&rt, &ledger, seats.as_mut_slice());
+    enter_all_leaves(&rt, &ledger, seats.as_mut_slice());
     let Ok(book) = ledger.close(seats) else {
         assert!(rt; false);
         return Ok(());
     };
     assert!(rt; book.entries.len() == 2000);
-    assert!(rt; first_entries(&book.entries) == 1000);
+    assert!(rt; entry_count_of_first_seat(&book.entries) == 1000);
     Ok(())
 }

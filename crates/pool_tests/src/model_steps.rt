@@ -12,8 +12,8 @@ const ROOT: Node = Node {
     depth: 0,
 };
 
-// Tells whether these steps are taken one after the other, and only the last of them leaves nothing to do.
-fn ends_by(pool: &mut Pool<Crossing>, steps: &[Step]) -> bool {
+// Tells whether the pool takes these steps, one after the other, and is done after the last of them but not before.
+fn pool_ends_after(pool: &mut Pool<Crossing>, steps: &[Step]) -> bool {
     for step in steps {
         if pool.is_done() || pool.step(*step).is_err() {
             return false;
@@ -22,8 +22,8 @@ fn ends_by(pool: &mut Pool<Crossing>, steps: &[Step]) -> bool {
     pool.is_done()
 }
 
-// Tells whether the leaves that were entered start at these times, in this order.
-fn have_begins(leaves: &[Leaf], begins: &[i64]) -> bool {
+// Tells whether the leaves are as many as these times, and start at them in this order.
+fn leaves_start_at(leaves: &[Leaf], begins: &[i64]) -> bool {
     if leaves.len() != begins.len() {
         return false;
     }
@@ -35,13 +35,11 @@ fn have_begins(leaves: &[Leaf], begins: &[i64]) -> bool {
     true
 }
 
-// Shows that ten steps end the work on four leaves, and that they are entered in the order of the steps.
+// Shows that ten steps of two workers end the work on a tree of four leaves, and that the leaves are entered in the
+// order of the steps that enter them.
 #[test]
-fn ten_steps(rt: HostRuntime) -> Result<(), Fail> {
-    let Ok(mut pool) = Pool::new(rt.alloc(), Crossing, ROOT, 2) else {
-        assert!(rt; false);
-        return Ok(());
-    };
+fn ten_steps_enter_four_leaves(rt: HostRuntime) -> Result<(), Fail> {
+    let mut pool = Pool::new(rt.alloc(), Crossing, ROOT, 2)?;
     let steps = [
         Step::Push { w: 0 },
         Step::Steal { w: 1, from: 0 },
@@ -54,41 +52,38 @@ fn ten_steps(rt: HostRuntime) -> Result<(), Fail> {
         Step::Pop { w: 0 },
         Step::Enter { w: 0 },
     ];
-    assert!(rt; ends_by(&mut pool, steps.as_slice()));
+    assert!(rt; pool_ends_after(&mut pool, steps.as_slice()));
     let begins = [1_339_200, 1_339_000, 1_339_100, 1_339_150];
-    assert!(rt; have_begins(pool.entered(), begins.as_slice()));
+    assert!(rt; leaves_start_at(pool.entered_leaves(), begins.as_slice()));
     Ok(())
 }
 
-// Tells whether each of these steps is refused.
-fn refuses_all(pool: &mut Pool<Crossing>, steps: &[Step]) -> bool {
-    for step in steps {
-        let Err(StepError::Refused) = pool.step(*step) else {
-            return false;
-        };
+// Tells whether the pool refuses the step since its condition is false, and not for want of memory.
+fn pool_refuses(pool: &mut Pool<Crossing>, step: Step) -> bool {
+    match pool.step(step) {
+        Err(StepError::Refused) => true,
+        _ => false,
     }
-    true
 }
 
-// Shows that the opening state refuses the steps whose condition is false.
+// Shows that a new pool, with the root in the hand of worker 0 and nothing elsewhere, refuses each step whose
+// condition is false there, and takes a `Keep`.
 #[test]
-fn opening_state_refuses(rt: HostRuntime) -> Result<(), Fail> {
-    let Ok(mut pool) = Pool::new(rt.alloc(), Crossing, ROOT, 2) else {
-        assert!(rt; false);
-        return Ok(());
-    };
-    let refused = [
+fn the_opening_state_refuses_steps(rt: HostRuntime) -> Result<(), Fail> {
+    let mut pool = Pool::new(rt.alloc(), Crossing, ROOT, 2)?;
+    for step in [
         Step::Pop { w: 0 },
         Step::TakeKept { w: 0 },
         Step::Enter { w: 0 },
         Step::Steal { w: 0, from: 0 },
         Step::Push { w: 2 },
-    ];
-    assert!(rt; refuses_all(&mut pool, refused.as_slice()));
-    assert!(rt; pool.entered().is_empty());
+    ] {
+        assert!(rt; pool_refuses(&mut pool, step));
+    }
+    assert!(rt; pool.entered_leaves().is_empty());
     assert!(rt; pool.step(Step::Keep { w: 0 }).is_ok());
-    let refused = [Step::TakeKept { w: 0 }, Step::Pop { w: 1 }];
-    assert!(rt; refuses_all(&mut pool, refused.as_slice()));
+    assert!(rt; pool_refuses(&mut pool, Step::TakeKept { w: 0 }));
+    assert!(rt; pool_refuses(&mut pool, Step::Pop { w: 1 }));
     assert!(rt; !pool.is_done());
     Ok(())
 }

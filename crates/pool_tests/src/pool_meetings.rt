@@ -7,8 +7,8 @@ ghost use Rattle.steal_pool.specs.Seats.{IsLeft, Seat};
 ghost use Rattle.pool_tests.specs.Judges.{long_crossing, span, stairs};
 ghost use Rattle.pool_tests.specs.Named.{AreNamed};
 
-use crate::judges::{Crossing, Stairs, span};
-use crate::pool_seats::push_rights;
+use crate::judges::{Crossing, Stairs, root_node};
+use crate::pool_seats::push_right_parts;
 use gf_edges::{Gate, OpenGate};
 use halving::Judge;
 use span_ledger::{LedgerSeat, SpanLedger};
@@ -21,8 +21,8 @@ use std::thread;
 use std::thread::Threads;
 use steal_pool::{Naming, PoolError, PoolSeat, finish, make, run};
 
-// Returns how many leaves this many workers find at a limit, or why they find none.
-fn found_by<R: Threads + Wait + Sync>(
+// Returns how many leaves of a tree of five this many workers enter at a limit, or the error of the run.
+fn leaf_count_by_workers<R: Threads + Wait + Sync>(
     rt: &R,
     alloc: Global,
     workers: u32,
@@ -30,96 +30,110 @@ fn found_by<R: Threads + Wait + Sync>(
 ) -> Result<usize, PoolError>
     requires { (1 ≤ workers) × (workers ≤ 64) }
 {
-    let book = run(rt, alloc, &Stairs, span(0, 5), workers, limit, &OpenGate)?;
+    let book = run(
+        rt,
+        alloc,
+        &Stairs,
+        root_node(0, 5),
+        workers,
+        limit,
+        &OpenGate,
+    )?;
     Ok(book.entries.len())
 }
 
-// Tells whether this many workers find the five leaves at a limit of five, and are refused at a limit of four.
-fn finds_five<R: Threads + Wait + Sync>(rt: &R, alloc: Global, workers: u32) -> bool {
+// Tells whether this many workers find the five leaves of a tree at a limit of five, and are refused at a limit of
+// four.
+fn workers_find_five_leaves<R: Threads + Wait + Sync>(rt: &R, alloc: Global, workers: u32) -> bool {
     if workers < 1 || workers > 64 {
         return false;
     }
-    found_by(rt, alloc, workers, 5) == Ok(5)
-        && found_by(rt, alloc, workers, 4) == Err(PoolError::TooMany)
+    leaf_count_by_workers(rt, alloc, workers, 5) == Ok(5)
+        && leaf_count_by_workers(rt, alloc, workers, 4) == Err(PoolError::TooMany)
 }
 
-// Shows that one, two, four and 64 workers find the same five leaves and keep the limit.
+// Shows that one, two, four and 64 workers find the same five leaves at a limit of five, and are refused at a limit of
+// four.
 #[test]
 fn any_number_of_workers_finds_the_leaves(rt: HostRuntime) {
     for workers in [1, 2, 4, 64] {
-        assert!(rt; finds_five(&rt, rt.alloc(), workers));
+        assert!(rt; workers_find_five_leaves(&rt, rt.alloc(), workers));
     }
 }
 
-// The most looks of a worker that is held whether another has come. After them it gives up, so that a test ends.
-const TURNS: u64 = 200_000_000;
+// The most looks of a worker that is held whether enough have come. After them it gives up, so that a test ends.
+const TURNS: u64 = 20_000_000;
 
-// A gate that holds worker 0 at its second pass until another worker has come. It holds each other at its first pass
-// until worker 0 has come to its second.
+// A gate at which workers meet. It lets the first `unheld` passes go, and holds each later one until `needed` passes
+// are counted. A worker that is held makes no other pass, so those that meet are different workers.
 #[derive(Drop)]
 struct Meeting {
-    first: AtomicU64,
-    others: AtomicU64,
+    unheld: u64,
+    needed: u64,
+    passes: AtomicU64,
     given_up: AtomicU64,
 }
 
-// Waits until a count of passes reaches `least`. After `TURNS` looks it gives up, and notes so.
-fn wait_for(passes: &AtomicU64, least: u64, given_up: &AtomicU64) {
-    for _ in 0..TURNS {
-        if passes.load(Ordering::SeqCst) >= least {
-            return;
+impl Meeting {
+    // Holds the calling worker until the gate has counted the needed passes. After `TURNS` looks it gives up, and sets
+    // `given_up` to 1, so that a test ends.
+    fn wait_for_others(&self) {
+        for _ in 0..TURNS {
+            if self.passes.load(Ordering::SeqCst) >= self.needed {
+                return;
+            }
+            thread::yield_now();
         }
+        self.given_up.store(1, Ordering::SeqCst);
     }
-    given_up.store(1, Ordering::SeqCst);
 }
 
 impl Gate for Meeting {
-    // Counts the pass of a worker, and holds it until another is there too.
-    fn pass(&self, worker: u32) {
-        if worker == 0 {
-            if self.first.fetch_add(1, Ordering::SeqCst) == 1 {
-                wait_for(&self.others, 1, &self.given_up);
-            }
-        } else {
-            self.others.fetch_add(1, Ordering::SeqCst);
-            wait_for(&self.first, 2, &self.given_up);
+    // Counts the pass of a worker, and holds the worker until enough have come, unless its pass is one of the first.
+    fn pass(&self, _worker: u32) {
+        if self.passes.fetch_add(1, Ordering::SeqCst) >= self.unheld {
+            self.wait_for_others();
         }
     }
 }
 
-// Makes a gate at which no worker has passed.
-fn new_meeting() -> Meeting {
+// Makes a gate at which no worker has passed. It lets the first `unheld` passes go, and holds each later one until
+// `needed` passes are counted.
+fn new_meeting(unheld: u64, needed: u64) -> Meeting {
     Meeting {
-        first: AtomicU64::new(0),
-        others: AtomicU64::new(0),
+        unheld,
+        needed,
+        passes: AtomicU64::new(0),
         given_up: AtomicU64::new(0),
     }
 }
 
-// Shows that two workers of a run are at work at the same time.
+// Shows that two workers of a run are at work at the same time: each is held at the gate until both have passed. The
+// first pass, which is let go, is that for the root, which the first worker makes before the other starts.
 #[test]
 fn two_workers_meet(rt: HostRuntime) -> Result<(), Fail> {
-    let gate = new_meeting();
-    let root = span(-43_200, 2_721_600);
+    let gate = new_meeting(1, 3);
+    let root = root_node(-43_200, 2_721_600);
     let Ok(book) = run(&rt, rt.alloc(), &Crossing, root, 2, 1000, &gate) else {
         assert!(rt; false);
         return Ok(());
     };
     assert!(rt; book.entries.len() > 2);
-    assert!(rt; all_met(&gate));
+    assert!(rt; has_nobody_given_up(&gate));
     Ok(())
 }
 
-// Works until nothing is left to do, or the seat is refused. The seat keeps why it stopped.
-fn work_off<R: Wait, N: Naming, J: Judge, G: Gate>(rt: &R, seat: &mut PoolSeat<N, J, G>)
+// Works until the seat finds no more nodes or stops before its work is done. The result is dropped, since the seat
+// itself keeps why it stopped.
+fn work_to_end<R: Wait, N: Naming, J: Judge, G: Gate>(rt: &R, seat: &mut PoolSeat<N, J, G>)
     requires free { seat.old.refusal ≡ None }
     ensures { HasWorked N.rules seat.old seat.new }
 {
     let _ = seat.work(rt);
 }
 
-// Lets all seats work at once.
-fn work_all<R: Threads + Wait + Sync, N: Naming + Send + Sync, J: Judge, G: Gate>(
+// Lets all seats work to their end at the same time, each in a thread. All threads have ended when the call returns.
+fn work_all_seats<R: Threads + Wait + Sync, N: Naming + Send + Sync, J: Judge, G: Gate>(
     rt: &R,
     seats: &mut [PoolSeat<N, J, G>],
 )
@@ -134,13 +148,13 @@ fn work_all<R: Threads + Wait + Sync, N: Naming + Send + Sync, J: Judge, G: Gate
         &|_, seat: &mut PoolSeat<N, J, G>|
             requires { seat.now.refusal ≡ None }
             ensures { HasWorked N.rules seat.entry.now seat.exit.now }
-        { work_off(rt, seat) },
+        { work_to_end(rt, seat) },
     );
 }
 
-// Lets the first seat put the right parts of `count` splits on its deque, and then all seats work at once. True where
-// all these parts went on the deque.
-fn push_and_work<R: Threads + Wait + Sync, N: Naming + Send + Sync, J: Judge, G: Gate>(
+// Lets the first seat split the node in its hand `count` times and put the right parts on its deque, and then lets all
+// seats work to their end at the same time. Returns whether all these parts went on the deque.
+fn push_parts_and_work<R: Threads + Wait + Sync, N: Naming + Send + Sync, J: Judge, G: Gate>(
     rt: &R,
     judge: &J,
     seats: &mut [PoolSeat<N, J, G>],
@@ -152,29 +166,14 @@ fn push_and_work<R: Threads + Wait + Sync, N: Naming + Send + Sync, J: Judge, G:
     ensures linked { AreLinked seats.old → AreLinked seats.new }
     ensures left { AllByRecursion (IsLeft N.rules) seats.new }
 {
-    let pushed = push_rights(judge, &mut seats[0], count);
-    work_all(rt, seats);
+    let pushed = push_right_parts(judge, &mut seats[0], count);
+    work_all_seats(rt, seats);
     pushed
 }
 
-// A gate that holds each worker until four have come.
-#[derive(Drop)]
-struct Four {
-    come: AtomicU64,
-    given_up: AtomicU64,
-}
-
-impl Gate for Four {
-    // Counts a pass, and waits for the fourth.
-    fn pass(&self, _worker: u32) {
-        self.come.fetch_add(1, Ordering::SeqCst);
-        wait_for(&self.come, 4, &self.given_up);
-    }
-}
-
-// Tells whether four seats meet at the gate. Three nodes lie on the deque of the first seat when all start, so each
-// other seat takes one.
-fn meet<N: Naming + Send + Sync, R: Threads + Wait + Sync>(
+// Tells whether four seats meet at a gate that holds each until all four have come. Three nodes lie on the deque of
+// the first seat when all start, so each other seat takes one and comes to the gate with it.
+fn four_seats_meet<N: Naming + Send + Sync, R: Threads + Wait + Sync>(
     rt: &R,
     alloc: Global,
     ledger: &SpanLedger,
@@ -182,44 +181,37 @@ fn meet<N: Naming + Send + Sync, R: Threads + Wait + Sync>(
 ) -> bool
     requires pool { CanMake N.rules stairs ledger.now entries.items (span (pos 0) (pos 100)) }
 {
-    let gate = Four {
-        come: AtomicU64::new(0),
-        given_up: AtomicU64::new(0),
-    };
-    let root = span(0, 100);
-    let Ok(mut seats) = make::<N, Stairs, Four>(alloc, &Stairs, ledger, entries, root, &gate) else {
+    let gate = new_meeting(0, 4);
+    let root = root_node(0, 100);
+    let Ok(mut seats) = make::<N, Stairs, Meeting>(alloc, &Stairs, ledger, entries, root, &gate)
+    else {
         return false;
     };
-    let pushed = push_and_work(rt, &Stairs, seats.as_mut_slice(), 3);
-    pushed && gate.given_up.load(Ordering::SeqCst) == 0
+    let pushed = push_parts_and_work(rt, &Stairs, seats.as_mut_slice(), 3);
+    pushed && has_nobody_given_up(&gate)
 }
 
-// Shows that four workers of a pool are at work at the same time.
+// Shows that four workers of a pool are at work at the same time: each is held at a gate until all four have come.
 #[test]
 fn four_workers_meet(rt: HostRuntime) -> Result<(), Fail> {
-    let Ok((ledger, entries)) = SpanLedger::new(rt.alloc(), span(0, 100), 100, 4) else {
-        assert!(rt; false);
-        return Ok(());
-    };
-    assert!(rt; meet::<Brand, _>(&rt, rt.alloc(), &ledger, entries));
+    let (ledger, entries) = SpanLedger::new(rt.alloc(), root_node(0, 100), 100, 4)?;
+    assert!(rt; four_seats_meet::<Brand, _>(&rt, rt.alloc(), &ledger, entries));
     Ok(())
 }
 
-// Returns how often the first worker and the others have passed the gate.
-fn passes(gate: &Meeting) -> (u64, u64) {
-    let first = gate.first.load(Ordering::SeqCst);
-    let others = gate.others.load(Ordering::SeqCst);
-    (first, others)
+// Returns how many passes of workers the gate has counted.
+fn pass_count(gate: &Meeting) -> u64 {
+    gate.passes.load(Ordering::SeqCst)
 }
 
-// Tells whether no worker gave up waiting.
-fn all_met(gate: &Meeting) -> bool {
+// Tells whether no worker gave up while it waited at the gate, so that all that waited there met.
+fn has_nobody_given_up(gate: &Meeting) -> bool {
     gate.given_up.load(Ordering::SeqCst) == 0
 }
 
-// Tells whether four seats, of which the first and another meet, leave nothing on their deques for the end of the
-// pool.
-fn leave_nothing<N: Naming + Send + Sync, R: Threads + Wait + Sync>(
+// Tells whether four seats, two of which meet at the gate, leave nothing on their deques for `finish`: then `finish`
+// judges no node, and so makes no pass of the gate.
+fn seats_leave_nothing_to_finish<N: Naming + Send + Sync, R: Threads + Wait + Sync>(
     rt: &R,
     alloc: Global,
     ledger: &SpanLedger,
@@ -228,27 +220,24 @@ fn leave_nothing<N: Naming + Send + Sync, R: Threads + Wait + Sync>(
     requires pool { CanMake N.rules long_crossing ledger.now entries.items
         (span (neg_ℤ (pos 43200)) (pos 2721600)) }
 {
-    let gate = new_meeting();
-    let root = span(-43_200, 2_721_600);
+    let gate = new_meeting(0, 2);
+    let root = root_node(-43_200, 2_721_600);
     let Ok(mut seats) = make::<N, Crossing, Meeting>(alloc, &Crossing, ledger, entries, root, &gate)
     else {
         return false;
     };
-    let pushed = push_and_work(rt, &Crossing, seats.as_mut_slice(), 1);
-    let met = all_met(&gate);
-    let before = passes(&gate);
+    let pushed = push_parts_and_work(rt, &Crossing, seats.as_mut_slice(), 1);
+    let met = has_nobody_given_up(&gate);
+    let before = pass_count(&gate);
     let ended = finish(rt, alloc, seats).is_ok();
-    pushed & met & ended & (passes(&gate) == before)
+    pushed & met & ended & (pass_count(&gate) == before)
 }
 
-// Shows that workers that work to their end leave nothing for `finish`.
+// Shows that four workers that work to their end leave no node on a deque, so that `finish` has nothing to judge.
 #[test]
 fn workers_leave_nothing_for_the_end(rt: HostRuntime) -> Result<(), Fail> {
-    let root = span(-43_200, 2_721_600);
-    let Ok((ledger, entries)) = SpanLedger::new(rt.alloc(), root, 1000, 4) else {
-        assert!(rt; false);
-        return Ok(());
-    };
-    assert!(rt; leave_nothing::<Brand, _>(&rt, rt.alloc(), &ledger, entries));
+    let root = root_node(-43_200, 2_721_600);
+    let (ledger, entries) = SpanLedger::new(rt.alloc(), root, 1000, 4)?;
+    assert!(rt; seats_leave_nothing_to_finish::<Brand, _>(&rt, rt.alloc(), &ledger, entries));
     Ok(())
 }

@@ -2,11 +2,11 @@
 ghost use Rattle.std.specs.Prelude.{◌≡◌, ◌<◌, IsTrue, None, pos, neg_ℤ, length};
 ghost use Rattle.steal_pool.specs.Pools.{CanMake};
 ghost use Rattle.steal_pool.specs.Runs.{AreFree};
-ghost use Rattle.steal_pool.specs.Seats.{IsLeft, SameSeat};
+ghost use Rattle.steal_pool.specs.Seats.{IsLeft, IsNamed, SameSeat};
 ghost use Rattle.pool_tests.specs.Judges.{long_crossing, span, stairs};
 ghost use Rattle.pool_tests.specs.Named.{AreNamed};
 
-use crate::judges::{Crossing, Stairs, span};
+use crate::judges::{Crossing, Stairs, root_node};
 use gf_edges::{Gate, OpenGate};
 use halving::{Judge, Node, Verdict};
 use span_ledger::{Book, LedgerSeat, SpanLedger};
@@ -16,9 +16,9 @@ use std::sync::Wait;
 use std::test::*;
 use steal_pool::{Naming, PoolSeat, Pushed, finish, make};
 
-// Puts the right part of the node in the hand away, and returns where it went. None where that node is not to be
-// split.
-fn push_right<N: Naming, J: Judge, G: Gate>(
+// Splits the node in the seat's hand, puts its right part away, and returns where that went. None if the hand is empty
+// or its node is not to be split.
+fn push_right_part<N: Naming, J: Judge, G: Gate>(
     judge: &J,
     seat: &mut PoolSeat<N, J, G>,
 ) -> Option<Pushed>
@@ -34,8 +34,9 @@ fn push_right<N: Naming, J: Judge, G: Gate>(
     Some(seat.push(right))
 }
 
-/// Puts the right parts of `count` splits away, one after the other. True where all of them went on the deque.
-pub fn push_rights<N: Naming, J: Judge, G: Gate>(
+/// Splits the node in the seat's hand `count` times, and puts the right parts away one after the other. Returns
+/// whether all of them went on the deque.
+pub fn push_right_parts<N: Naming, J: Judge, G: Gate>(
     judge: &J,
     seat: &mut PoolSeat<N, J, G>,
     count: u32,
@@ -45,15 +46,15 @@ pub fn push_rights<N: Naming, J: Judge, G: Gate>(
     ensures refusal { seat.new.refusal ≡ seat.old.refusal }
 {
     for _ in 0..count {
-        let Some(Pushed::OnDeque) = push_right(judge, seat) else {
+        let Some(Pushed::OnDeque) = push_right_part(judge, seat) else {
             return false;
         };
     }
     true
 }
 
-// Takes the next node into an empty hand. None where the hand is not empty, or no node is found.
-fn take_next<N: Naming, J: Judge, G: Gate>(seat: &mut PoolSeat<N, J, G>) -> Option<Node>
+// Takes the next node into the seat's hand, and returns it. None if the hand is not empty, or no node is found.
+fn take_next_node<N: Naming, J: Judge, G: Gate>(seat: &mut PoolSeat<N, J, G>) -> Option<Node>
     ensures same { SameSeat seat.old seat.new }
     ensures refusal { seat.new.refusal ≡ seat.old.refusal }
 {
@@ -63,22 +64,23 @@ fn take_next<N: Naming, J: Judge, G: Gate>(seat: &mut PoolSeat<N, J, G>) -> Opti
     }
 }
 
-// Tells whether a seat over a hundred seconds of `Stairs`, which holds the root, puts 64 nodes on its deque and one
-// on its local stack, and then works to its end.
-fn push_stairs<N: Naming, R: Wait>(rt: &R, seat: &mut PoolSeat<N, Stairs, OpenGate>) -> bool
+// Splits the node in the seat's hand 65 times, and then lets the seat work to its end. Returns whether the first 64
+// right parts went on the deque and the next one on the local stack.
+fn fill_deque_and_work<N: Naming, R: Wait>(rt: &R, seat: &mut PoolSeat<N, Stairs, OpenGate>) -> bool
     requires named { AreNamed N.rules stairs }
     requires free { seat.old.refusal ≡ None }
     ensures same { SameSeat seat.old seat.new }
     ensures left { IsLeft N.rules seat.new }
 {
-    let on_deque = push_rights(&Stairs, seat, 64);
-    let kept = push_right(&Stairs, seat) == Some(Pushed::Kept);
+    let on_deque = push_right_parts(&Stairs, seat, 64);
+    let kept = push_right_part(&Stairs, seat) == Some(Pushed::Kept);
     let ended = seat.work(rt).is_ok();
     on_deque & kept & ended
 }
 
-// Returns the book of a pool's only seat, after it filled its deque and worked, or none where it did not.
-fn book_of_one<N: Naming, R: Wait>(
+// Makes a pool of one seat over a hundred seconds, fills the seat's deque with 64 nodes, lets the seat work, and
+// returns the book of the pool. None if the 65th node did not go on the local stack, or the pool does not end well.
+fn book_of_one_seat<N: Naming, R: Wait>(
     rt: &R,
     alloc: Global,
     ledger: SpanLedger,
@@ -87,7 +89,7 @@ fn book_of_one<N: Naming, R: Wait>(
     requires pool { CanMake N.rules stairs ledger entries.items (span (pos 0) (pos 100)) }
     requires one { length entries.items ≡ 1 }
 {
-    let root = span(0, 100);
+    let root = root_node(0, 100);
     let Ok(mut seats) = make::<N, Stairs, OpenGate>(
         alloc, &Stairs, &ledger, entries, root, &OpenGate,
     ) else {
@@ -96,7 +98,7 @@ fn book_of_one<N: Naming, R: Wait>(
     let Some(mut seat) = seats.pop() else {
         return None;
     };
-    let pushed = push_stairs(rt, &mut seat);
+    let pushed = fill_deque_and_work(rt, &mut seat);
     let Ok(_) = seats.push(seat) else {
         return None;
     };
@@ -109,14 +111,12 @@ fn book_of_one<N: Naming, R: Wait>(
     ledger.close(entries).ok()
 }
 
-// Shows that a deque takes 64 nodes in a row, and that the local stack takes the next.
+// Shows that a deque takes 64 nodes in a row, that the local stack takes the 65th, and that the book has all hundred
+// leaves.
 #[test]
 fn a_deque_takes_64_nodes_in_a_row(rt: HostRuntime) -> Result<(), Fail> {
-    let Ok((ledger, entries)) = SpanLedger::new(rt.alloc(), span(0, 100), 100, 1) else {
-        assert!(rt; false);
-        return Ok(());
-    };
-    let Some(book) = book_of_one::<Brand, _>(&rt, rt.alloc(), ledger, entries) else {
+    let (ledger, entries) = SpanLedger::new(rt.alloc(), root_node(0, 100), 100, 1)?;
+    let Some(book) = book_of_one_seat::<Brand, _>(&rt, rt.alloc(), ledger, entries) else {
         assert!(rt; false);
         return Ok(());
     };
@@ -124,7 +124,8 @@ fn a_deque_takes_64_nodes_in_a_row(rt: HostRuntime) -> Result<(), Fail> {
     Ok(())
 }
 
-// Tells whether the second seat takes what the first puts on its deque, and both then work to their end.
+// Tells whether the second seat takes the node from 1339200 to 1339400, which the first puts on its deque, and both
+// then work to their end.
 fn take_from_other<N: Naming, R: Wait>(
     rt: &R,
     first: &mut PoolSeat<N, Crossing, OpenGate>,
@@ -140,15 +141,16 @@ fn take_from_other<N: Naming, R: Wait>(
         b: 1_339_400,
         depth: 1,
     };
-    let pushed = push_right(&Crossing, first) == Some(Pushed::OnDeque);
-    let taken = take_next(second) == Some(right);
+    let pushed = push_right_part(&Crossing, first) == Some(Pushed::OnDeque);
+    let taken = take_next_node(second) == Some(right);
     let first_ended = first.work(rt).is_ok();
     let second_ended = second.work(rt).is_ok();
     pushed & taken & first_ended & second_ended
 }
 
-// Returns the book of two seats in one thread, after the second took a node of the first, or none where it did not.
-fn book_of_two<N: Naming, R: Wait>(
+// Makes a pool of two seats over 400 seconds, lets the second take a node of the first in this thread, lets both work,
+// and returns the book of the pool. None if the second did not take it, or the pool does not end well.
+fn book_of_two_seats<N: Naming, R: Wait>(
     rt: &R,
     alloc: Global,
     ledger: SpanLedger,
@@ -158,7 +160,7 @@ fn book_of_two<N: Naming, R: Wait>(
         (span (pos 1339000) (pos 1339400)) }
     requires two { length entries.items ≡ 2 }
 {
-    let root = span(1_339_000, 1_339_400);
+    let root = root_node(1_339_000, 1_339_400);
     let Ok(mut seats) = make::<N, Crossing, OpenGate>(
         alloc, &Crossing, &ledger, entries, root, &OpenGate,
     ) else {
@@ -186,8 +188,9 @@ fn book_of_two<N: Naming, R: Wait>(
     ledger.close(entries).ok()
 }
 
-// Returns the number of the seat that entered the leaf from `a` to `b`, or none where no leaf is there.
-fn seat_of(book: &Book, a: i64, b: i64) -> Option<u32> {
+// Returns the number of the seat that entered the leaf from time `a` to `b` into the book, or none if no such leaf is
+// there.
+fn seat_of_leaf(book: &Book, a: i64, b: i64) -> Option<u32> {
     for booked in book.entries.iter() {
         if booked.leaf.node.a == a && booked.leaf.node.b == b {
             return Some(booked.seat);
@@ -196,15 +199,13 @@ fn seat_of(book: &Book, a: i64, b: i64) -> Option<u32> {
     None
 }
 
-// Shows that a seat takes a node of another's deque, and enters the leaves under it.
+// Shows that seat 1 takes the node from 1339200 to 1339400 from the deque of seat 0 and enters its leaf, while seat 0
+// enters the three leaves before.
 #[test]
 fn a_seat_takes_what_another_put_on_its_deque(rt: HostRuntime) -> Result<(), Fail> {
-    let root = span(1_339_000, 1_339_400);
-    let Ok((ledger, entries)) = SpanLedger::new(rt.alloc(), root, 100, 2) else {
-        assert!(rt; false);
-        return Ok(());
-    };
-    let Some(book) = book_of_two::<Brand, _>(&rt, rt.alloc(), ledger, entries) else {
+    let root = root_node(1_339_000, 1_339_400);
+    let (ledger, entries) = SpanLedger::new(rt.alloc(), root, 100, 2)?;
+    let Some(book) = book_of_two_seats::<Brand, _>(&rt, rt.alloc(), ledger, entries) else {
         assert!(rt; false);
         return Ok(());
     };
@@ -215,14 +216,14 @@ fn a_seat_takes_what_another_put_on_its_deque(rt: HostRuntime) -> Result<(), Fai
         (1_339_150, 1_339_200, 0),
         (1_339_200, 1_339_400, 1),
     ] {
-        assert!(rt; seat_of(&book, a, b) == Some(seat));
+        assert!(rt; seat_of_leaf(&book, a, b) == Some(seat));
     }
     Ok(())
 }
 
-// Tells whether a seat puts the right part of its node on its deque, another takes it, and the first works off what
-// it has. No other deque holds a node meanwhile.
-fn hand_over<N: Naming, R: Wait>(
+// Tells whether the seat `owner` puts the right part of its node on its deque and the seat `taker` steals it, and the
+// owner then works to its end. No other deque holds a node meanwhile, so the taker can have it from this one alone.
+fn hand_node_over<N: Naming, R: Wait>(
     rt: &R,
     seats: &mut [PoolSeat<N, Crossing, OpenGate>],
     owner: usize,
@@ -233,10 +234,10 @@ fn hand_over<N: Naming, R: Wait>(
     requires free { AreFree seats.old }
     ensures free { IsTrue result → AreFree seats.new }
 {
-    let Some(Pushed::OnDeque) = push_right(&Crossing, &mut seats[owner]) else {
+    let Some(Pushed::OnDeque) = push_right_part(&Crossing, &mut seats[owner]) else {
         return false;
     };
-    let Some(_) = take_next(&mut seats[taker]) else {
+    let Some(_) = take_next_node(&mut seats[taker]) else {
         return false;
     };
     match seats[owner].work(rt) {
@@ -261,8 +262,12 @@ const WAY: [(usize, usize); 12] = [
     (3, 0),
 ];
 
-// Tells whether the seats hand over along all pairs of `WAY`.
-fn hand_round<N: Naming, R: Wait>(rt: &R, seats: &mut [PoolSeat<N, Crossing, OpenGate>]) -> bool
+// Tells whether a node goes from the first seat to the second for all pairs of `WAY`, one after the other. A pair that
+// names a seat that is not there fails.
+fn hand_over_between_all_pairs<N: Naming, R: Wait>(
+    rt: &R,
+    seats: &mut [PoolSeat<N, Crossing, OpenGate>],
+) -> bool
     requires named { AreNamed N.rules long_crossing }
     requires free { AreFree seats.old }
 {
@@ -270,40 +275,32 @@ fn hand_round<N: Naming, R: Wait>(rt: &R, seats: &mut [PoolSeat<N, Crossing, Ope
         if owner >= seats.len() || taker >= seats.len() {
             return false;
         }
-        if !hand_over(rt, seats, owner, taker) {
+        if !hand_node_over(rt, seats, owner, taker) {
             return false;
         }
     }
     true
 }
 
-// Makes a pool of four seats, and tells whether they hand over along all pairs of `WAY`.
-fn make_and_hand_round<N: Naming, R: Wait>(
+// Makes a pool of four seats over 16 days, and tells whether a node goes from the first seat to the second for all
+// pairs of `WAY`.
+fn make_and_hand_over_between_all_pairs<N: Naming, R: Wait>(
     rt: &R,
     alloc: Global,
-    ledger: &SpanLedger,
-    entries: Vec<LedgerSeat>,
-) -> bool
-    requires pool { CanMake N.rules long_crossing ledger.now entries.items
-        (span (neg_ℤ (pos 43200)) (pos 1339200)) }
+) -> Result<bool, Fail>
+    requires named { IsNamed N.rules long_crossing (span (neg_ℤ (pos 43200)) (pos 1339200)) }
 {
-    let root = span(-43_200, 1_339_200);
-    let Ok(mut seats) = make::<N, Crossing, OpenGate>(
-        alloc, &Crossing, ledger, entries, root, &OpenGate,
-    ) else {
-        return false;
-    };
-    hand_round(rt, seats.as_mut_slice())
+    let root = root_node(-43_200, 1_339_200);
+    let (ledger, entries) = SpanLedger::new(alloc, root, 1000, 4)?;
+    let mut seats = make::<N, Crossing, OpenGate>(
+        alloc, &Crossing, &ledger, entries, root, &OpenGate,
+    )?;
+    Ok(hand_over_between_all_pairs(rt, seats.as_mut_slice()))
 }
 
-// Shows that each of four seats steals from each other one.
+// Shows that each of four seats steals a node from the deque of each other one, in this thread.
 #[test]
 fn each_of_four_seats_steals_from_each_other_one(rt: HostRuntime) -> Result<(), Fail> {
-    let root = span(-43_200, 1_339_200);
-    let Ok((ledger, entries)) = SpanLedger::new(rt.alloc(), root, 1000, 4) else {
-        assert!(rt; false);
-        return Ok(());
-    };
-    assert!(rt; make_and_hand_round::<Brand, _>(&rt, rt.alloc(), &ledger, entries));
+    assert!(rt; make_and_hand_over_between_all_pairs::<Brand, _>(&rt, rt.alloc())?);
     Ok(())
 }

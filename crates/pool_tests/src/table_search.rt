@@ -2,7 +2,7 @@
 ghost use Rattle.std.specs.Prelude.{◌≡◌, ◌<◌, ◌≤ℤ◌, pos, slice_index};
 ghost use Rattle.pool_tests.specs.Laws.{heights, tide, tides, tides_keep_reach};
 
-use crate::judges::span;
+use crate::judges::root_node;
 use gf_edges::OpenGate;
 use gf_hooks::CutRule;
 use gf_uds::{Law, Reach, Scalar, ScalarJudge, Want, find_scalar, scalar_leaves};
@@ -16,21 +16,21 @@ use std::thread::Threads;
 // The heights of the water at the times 0 to 12.
 const HEIGHTS: [u8; 13] = [10, 8, 6, 3, 1, 3, 5, 7, 6, 4, 4, 7, 9];
 
-// Returns the height at a place of the table.
-fn height(i: usize) -> u8
+// Returns the height of the water at a place of the table, 0 to 12.
+fn water_height(i: usize) -> u8
     requires { i < 13 }
     ensures { result ≡ slice_index heights i }
 {
     HEIGHTS[i]
 }
 
-// Returns the height at a time, less the mark of 5.
-fn tide(t: i64) -> i128
+// Returns the height of the water at a time, 0 to 12, less the mark of 5: at least 0 if the water reaches the mark.
+fn height_above_mark(t: i64) -> i128
     requires from { pos 0 ≤ℤ t }
     requires to { t ≤ℤ pos 12 }
     ensures { result ≡ tide t }
 {
-    i128::from(height(t.unsigned_abs() as usize)) - 5
+    i128::from(water_height(t.unsigned_abs() as usize)) - 5
 }
 
 // A law of the tides, which change by at most 3 from one time to the next.
@@ -40,8 +40,8 @@ struct Tides;
 impl Law for Tides {
     ghost scalar = { λ _. tides };
 
-    // Returns what is known of the tides over a span: bounds that hold for the whole table, and the exact value at a
-    // single time.
+    // Returns bounds of the tides and of their steps over a span. They are those of the whole table, or the exact value
+    // at a single time.
     fn reach(&self, a: i64, b: i64) -> Reach {
         if a < b {
             Reach {
@@ -52,8 +52,8 @@ impl Law for Tides {
             }
         } else {
             Reach {
-                lo: tide(a),
-                hi: tide(a),
+                lo: height_above_mark(a),
+                hi: height_above_mark(a),
                 step_lo: 0,
                 step_hi: 0,
             }
@@ -63,8 +63,9 @@ impl Law for Tides {
     ghost keeps = { λ _. tides_keep_reach };
 }
 
-// Makes the judge of a search for each passing of the mark, down to one time.
-fn judge() -> ScalarJudge<Tides>
+// Makes the judge of a search for each time from 0 to 12 at which the water passes the mark, in either direction, down
+// to nodes of one time.
+fn tides_judge() -> ScalarJudge<Tides>
     ensures first { result.scalar.first ≡ pos 0 }
     ensures last { result.scalar.last ≡ pos 12 }
 {
@@ -72,8 +73,9 @@ fn judge() -> ScalarJudge<Tides>
     ScalarJudge::new(scalar, Want::Any, 1, 40, CutRule::Half)
 }
 
-// Returns the mark of the leaf whose last time is this. The water passes the mark of 5 at four times.
-fn mark_at(t: i64) -> Mark {
+// Returns the mark that the leaf whose last time is `t` has to have. The water falls below the mark at times 3 and 9,
+// and reaches it again at 6 and 11; all other leaves are clear.
+fn expected_mark_at(t: i64) -> Mark {
     match t {
         3 | 9 => Mark::One(Turn::Fall),
         6 | 11 => Mark::One(Turn::Rise),
@@ -81,11 +83,11 @@ fn mark_at(t: i64) -> Mark {
     }
 }
 
-// Counts the leaves with a turn, or returns none where a leaf has another mark than `mark_at` says.
-fn turns(leaves: &[Leaf]) -> Option<u32> {
+// Returns the number of leaves with a turn, or none if a leaf has another mark than is expected at its last time.
+fn turn_count_of_leaves(leaves: &[Leaf]) -> Option<u32> {
     let mut turns = 0u32;
     for leaf in leaves {
-        if leaf.mark != mark_at(leaf.node.b) {
+        if leaf.mark != expected_mark_at(leaf.node.b) {
             return None;
         }
         if leaf.mark != Mark::Clear {
@@ -95,11 +97,12 @@ fn turns(leaves: &[Leaf]) -> Option<u32> {
     Some(turns)
 }
 
-// Counts the leaves with a turn in a book, or returns none where a leaf has another mark than `mark_at` says.
-fn turns_of(book: &Book) -> Option<u32> {
+// Returns the number of leaves with a turn in a book, or none if a leaf has another mark than is expected at its last
+// time.
+fn turn_count_of_book(book: &Book) -> Option<u32> {
     let mut turns = 0u32;
     for entry in &book.entries {
-        if entry.leaf.mark != mark_at(entry.leaf.node.b) {
+        if entry.leaf.mark != expected_mark_at(entry.leaf.node.b) {
             return None;
         }
         if entry.leaf.mark != Mark::Clear {
@@ -109,33 +112,46 @@ fn turns_of(book: &Book) -> Option<u32> {
     Some(turns)
 }
 
-// Counts the leaves with a turn that this many workers find, or returns none where a leaf has another mark.
-fn turns_by<R: Threads + Wait + Sync>(rt: &R, alloc: Global, workers: u32) -> Option<u32> {
+// Returns the number of leaves with a turn that this many workers find. None if the search fails or a leaf has another
+// mark than is expected.
+fn turn_count_by_workers<R: Threads + Wait + Sync>(
+    rt: &R,
+    alloc: Global,
+    workers: u32,
+) -> Option<u32> {
     if workers < 1 || workers > 64 {
         return None;
     }
-    match find_scalar(rt, alloc, &judge(), span(0, 12), workers, 13, &OpenGate) {
-        Ok(book) => turns_of(&book),
+    match find_scalar(
+        rt,
+        alloc,
+        &tides_judge(),
+        root_node(0, 12),
+        workers,
+        13,
+        &OpenGate,
+    ) {
+        Ok(book) => turn_count_of_book(&book),
         Err(_) => None,
     }
 }
 
-// Shows that one, two and eight workers find the four passings of the mark.
+// Shows that one, two and eight workers each find the four times at which the water passes the mark: 3, 6, 9 and 11.
 #[test]
 fn workers_find_each_passing_of_a_table(rt: HostRuntime) {
     for workers in [1, 2, 8] {
-        assert!(rt; turns_by(&rt, rt.alloc(), workers) == Some(4));
+        assert!(rt; turn_count_by_workers(&rt, rt.alloc(), workers) == Some(4));
     }
 }
 
-// Shows that one walk finds the four passings of the mark.
+// Shows that one walk finds the four times at which the water passes the mark: 3, 6, 9 and 11.
 #[test]
-fn one_walk_finds_them(rt: HostRuntime) -> Result<(), Fail> {
-    let judge = judge();
-    let Ok(leaves) = scalar_leaves(rt.alloc(), &judge, span(0, 12), 13) else {
+fn one_walk_finds_each_passing_of_a_table(rt: HostRuntime) -> Result<(), Fail> {
+    let judge = tides_judge();
+    let Ok(leaves) = scalar_leaves(rt.alloc(), &judge, root_node(0, 12), 13) else {
         assert!(rt; false);
         return Ok(());
     };
-    assert!(rt; turns(leaves.as_slice()) == Some(4));
+    assert!(rt; turn_count_of_leaves(leaves.as_slice()) == Some(4));
     Ok(())
 }

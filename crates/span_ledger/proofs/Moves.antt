@@ -58,6 +58,25 @@ size_set t views id v p q h at one le = omega (arith, total_set size views id v 
 pub first_fits : (log : List Booked) (v : SeatView) (p : SeatHistory) → v.parts ≡ p ∷ [] → EachFits log v.parts → FitsPart log p
 first_fits log v p one f = (subst (EachFits log) one f).0
 
+-- the lock is taken, and the book with it
+lock_taken : (t : LedgerTerms) (log : List Booked) (views : List SeatView) → sum_by (λ (u : SeatView). u.holds) views ≡ 1
+    → ((j : ℕ) → sum_by (taken j) views ≤ 1) → sum_by size views ≤ t.seats
+    → ((i : ℕ) (u : SeatView) → get_elem? views i ≡ M.some u → Fits t log u) → Sound t log
+    → Keeps t (1 ∷ length log ∷ []) (M.none ∷ []) views
+lock_taken t log views holders numbers counted fit sound = record {
+  log = log;
+  word = 1;
+  lock = 1;
+  bit = inr (refl, refl);
+  words_are = refl;
+  homes_are = refl;
+  holders = holders;
+  numbers = numbers;
+  counted = counted;
+  fit = fit;
+  sound = sound;
+}
+
 locks_free : (t : LedgerTerms) (st : Stp) (id : ℕ) (v : SeatView) (p : SeatHistory) (s : State Slot SeatView) (k : Kept t s) → v.holds ≡ 0 → v.parts ≡ p ∷ [] → get_elem? s.views id ≡ M.some v → k.lock ≡ 0 → k.word ≢ 1
     → Goal t id (v, []) 0 (λ n. 1) (Locks st (v, [])) s.views (k.word ∷ length k.log ∷ []) (M.some (Some k.log) ∷ [])
 locks_free t st id v p s k idle one at z free =
@@ -70,26 +89,19 @@ locks_free t st id v p s k idle one at z free =
       w,
       takes 0 (Some k.log),
       refl,
-      record {
-        log = k.log;
-        word = 1;
-        lock = 1;
-        bit = inr (refl, refl);
-        words_are = refl;
-        homes_are = refl;
-        holders = omega (arith, k.holders, z, total_set (λ (u : SeatView). u.holds) s.views id v w at);
-        numbers = λ j. numbers_set s.views id v p q 1 j at one refl (k.numbers j);
-        counted = size_set t s.views id v p q 1 at one k.counted;
-        fit = all_set (λ i u. Fits t k.log u) s.views id w (record {
-          parts = (record { seen = ([], sym (append-nil k.log)); mine = f.mine; again = f.again }, tt);
-          below = old.below;
-          numbers = λ j le. same_times v p q 1 j one refl (old.numbers j le);
-          idle = λ no. absurd (omega (arith, no));
-          current = λ _. refl;
-          fresh = old.fresh;
-        }) (λ i u other e. k.fit i u e);
-        sound = k.sound;
-      },
+      lock_taken t k.log (slice_set s.views id w)
+          (omega (arith, k.holders, z, total_set (λ (u : SeatView). u.holds) s.views id v w at))
+          (λ j. numbers_set s.views id v p q 1 j at one refl (k.numbers j))
+          (size_set t s.views id v p q 1 at one k.counted)
+          (all_set (λ i u. Fits t k.log u) s.views id w (record {
+            parts = (record { seen = ([], sym (append-nil k.log)); mine = f.mine; again = f.again }, tt);
+            below = old.below;
+            numbers = λ j le. same_times v p q 1 j one refl (old.numbers j le);
+            idle = λ no. absurd (omega (arith, no));
+            current = λ _. refl;
+            fresh = old.fresh;
+          }) (λ i u other e. k.fit i u e))
+          k.sound,
       ((λ found. absurd (free found)), λ _. (k.log, told.0, told.1, told.2)),
     )
 
@@ -99,19 +111,8 @@ locks_taken t st id v s k at z one = (
   v,
   keeps,
   tt,
-  subst (Keeps t (1 ∷ length k.log ∷ []) (M.none ∷ [])) (sym (set_again s.views id v at)) (record {
-    log = k.log;
-    word = 1;
-    lock = 1;
-    bit = inr (refl, refl);
-    words_are = refl;
-    homes_are = refl;
-    holders = k.holders ∙ z;
-    numbers = k.numbers;
-    counted = k.counted;
-    fit = k.fit;
-    sound = k.sound;
-  }),
+  subst (Keeps t (1 ∷ length k.log ∷ []) (M.none ∷ [])) (sym (set_again s.views id v at))
+      (lock_taken t k.log s.views (k.holders ∙ z) k.numbers k.counted k.fit k.sound),
   ((λ _. refl), λ other. absurd (other one)),
 )
 

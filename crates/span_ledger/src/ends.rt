@@ -14,8 +14,8 @@ use std::alloc::Global;
 const BOOK: usize = 0;
 
 impl SpanLedger {
-    /// Makes an empty ledger for at most `limit` leaves of a root, and its 1 to 64 seats, whose numbers are their
-    /// places. The only error is out of memory.
+    /// Makes an empty ledger for at most `limit` leaves of a root, and `seats` seats, 1 to 64, in order of their
+    /// numbers from 0 on. A seat is the right to enter leaves. The only error is out of memory.
     pub fn new(
         alloc: Global,
         root: Node,
@@ -59,8 +59,8 @@ impl SpanLedger {
         ))
     }
 
-    /// Takes all seats back and hands out the book. Where the seats are not all there, it returns how many were
-    /// given. It does not allocate.
+    /// Takes all seats of the ledger back, and returns the book of the entered leaves. If seats are missing, the error
+    /// says how many were given and how many were made, and the ledger is lost. The call does not allocate.
     pub fn close(self, mut seats: Vec<LedgerSeat>) -> Result<Book, CloseError>
         requires { All (IsSeatOf self) seats.items }
         ensures root { IfOk result (λ book. book.root ≡ (terms self).root) }
@@ -99,8 +99,8 @@ impl SpanLedger {
     }
 }
 
-// Returns a count as a number of 32 bits, and the greatest such number for a greater count, which no ledger has seats
-// for.
+// Returns a count of seats as the 32-bit number that the error of `close` reports. A greater count becomes 4294967295;
+// no ledger has so many seats.
 fn capped_count(count: usize) -> u32
     ensures { result ≡ min count 4294967295 }
 {
@@ -108,7 +108,7 @@ fn capped_count(count: usize) -> u32
 }
 
 impl LedgerSeat {
-    /// Returns the seat's number, below 64.
+    /// Returns the seat's number, its place among the seats of its ledger, which is below 64.
     pub fn number(&self) -> u32
         ensures number { result ≡ (part self.now).number }
         ensures small { result < 64 }

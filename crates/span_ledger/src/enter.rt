@@ -21,7 +21,8 @@ const COUNT: usize = 1;
 // The slot of the table that holds the book.
 const BOOK: usize = 0;
 
-// Tries once to take the lock, and the book with it. False where another seat has it.
+// Tries once to take the ledger's lock for the seat that `raw` belongs to, and the book with it. Returns false, and
+// changes nothing, if another seat has the lock.
 fn try_lock(ledger: &SpanLedger, raw: &mut Raw) -> bool
     requires ours { raw.old.table_id ≡ ledger.now.table.shared.table_id }
     requires idle { IsIdle raw.old.me }
@@ -32,8 +33,9 @@ fn try_lock(ledger: &SpanLedger, raw: &mut Raw) -> bool
     ledger.table.shared.swap::<Lock>(raw, LOCK, 1) != 1
 }
 
-// Writes an entry into the book that the seat holds. Where the leaf stands already, the limit is reached or memory is
-// out, it writes nothing and returns that.
+// Writes an entry into the book, which the seat has taken from the ledger with the lock. Returns the entry's place
+// among all entries. Nothing is written if the leaf is in the book already (`Again`, with its place), if the book has
+// as many entries as the limit (`Full`), or if memory is out (`Memory`).
 fn write_entry(ledger: &SpanLedger, raw: &mut Raw, entry: Booked) -> Entry
     requires ours { raw.old.table_id ≡ ledger.now.table.shared.table_id }
     requires held { HasBook raw.old.me }
@@ -67,8 +69,9 @@ fn write_entry(ledger: &SpanLedger, raw: &mut Raw, entry: Booked) -> Entry
     }
 }
 
-// Gives the lock and the book back.
-fn release(ledger: &SpanLedger, raw: &mut Raw)
+// Gives the ledger's lock back, and the book with it, after an entry was written or refused. For a leaf that was in the
+// book already `release_after_repeat` does so.
+fn release_lock(ledger: &SpanLedger, raw: &mut Raw)
     requires ours { raw.old.table_id ≡ ledger.now.table.shared.table_id }
     requires held { HasBook raw.old.me }
     ensures same { raw.new.table_id ≡ raw.old.table_id }
@@ -77,10 +80,10 @@ fn release(ledger: &SpanLedger, raw: &mut Raw)
     ledger.table.shared.store::<Free>(raw, LOCK, 0);
 }
 
-// Gives the lock and the book back, and notes that the leaf at a place was to be entered again. The number that the
-// lock holds from then on, the place and 2, is there for the proof alone: no code reads it, and any number but 1 is a
-// lock that is free. The rule of the table learns from it which leaf that was.
-fn release_again(ledger: &SpanLedger, raw: &mut Raw, place: u32, leaf: Leaf)
+// Gives the lock and the book back after a leaf that was in the book already, at `place`. The lock's word becomes the
+// place plus 2. This number is written for the proof alone, whose rule of the table learns from it which leaf was
+// repeated: for the code, any number but 1 is a free lock.
+fn release_after_repeat(ledger: &SpanLedger, raw: &mut Raw, place: u32, leaf: Leaf)
     requires ours { raw.old.table_id ≡ ledger.now.table.shared.table_id }
     requires held { HasBook raw.old.me }
     requires stands { Stands leaf (own_part raw.old.me).seen place }
@@ -93,8 +96,8 @@ fn release_again(ledger: &SpanLedger, raw: &mut Raw, place: u32, leaf: Leaf)
         .store::<Free>(raw, LOCK, place as u64 + 2);
 }
 
-// Waits until the lock is free, and takes it and the book.
-fn lock<R: Wait>(rt: &R, ledger: &SpanLedger, raw: &mut Raw)
+// Waits until the ledger's lock is free, and takes it and the book for the seat. Between two tries other threads run.
+fn wait_for_lock<R: Wait>(rt: &R, ledger: &SpanLedger, raw: &mut Raw)
     requires ours { raw.old.table_id ≡ ledger.now.table.shared.table_id }
     requires idle { IsIdle raw.old.me }
     ensures same { raw.new.table_id ≡ raw.old.table_id }
@@ -108,7 +111,8 @@ fn lock<R: Wait>(rt: &R, ledger: &SpanLedger, raw: &mut Raw)
     }
 }
 
-// Writes an entry into the book that the seat holds, then gives the lock and the book back.
+// Writes an entry into the book, which the seat has taken with the lock, then gives the lock and the book back. Returns
+// the entry's place, or why nothing was written: the leaf is there already, the limit is reached, or memory is out.
 fn write_and_release(ledger: &SpanLedger, raw: &mut Raw, entry: Booked) -> Entry
     requires ours { raw.old.table_id ≡ ledger.now.table.shared.table_id }
     requires held { HasBook raw.old.me }
@@ -123,17 +127,18 @@ fn write_and_release(ledger: &SpanLedger, raw: &mut Raw, entry: Booked) -> Entry
 {
     let entered = write_entry(ledger, raw, entry);
     if let Entry::Again { place } = entered {
-        release_again(ledger, raw, place, entry.leaf);
+        release_after_repeat(ledger, raw, place, entry.leaf);
         return entered;
     }
-    release(ledger, raw);
+    release_lock(ledger, raw);
     entered
 }
 
 impl SpanLedger {
-    /// Enters a leaf of the root under the seat's number, unless it stands already or as many leaves as the limit stand.
-    /// Two leaves are the same where their nodes and their marks are. Out of memory comes only of a leaf that does not
-    /// stand yet and for which the limit leaves room. It waits for the lock.
+    /// Enters a leaf of the root under the seat's number, and returns its place in order of arrival. Nothing is
+    /// entered if an equal leaf, with the same node and mark, is there already (`Again`, with that leaf's place), or
+    /// if the limit is reached (`Full`). `Memory` comes only for a new leaf for which the limit leaves room. The call
+    /// waits for the lock.
     pub fn enter<R: Wait>(&self, rt: &R, seat: &mut LedgerSeat, leaf: Leaf) -> Entry
         requires ours { IsSeatOf self.now seat.old }
         requires inside { LiesIn (terms self.now).root leaf }
@@ -143,7 +148,7 @@ impl SpanLedger {
         ensures memory { result ≡ Entry.Memory
             → MayEnter (terms self.now).limit leaf (part seat.new).seen }
     {
-        lock(rt, self, &mut seat.raw);
+        wait_for_lock(rt, self, &mut seat.raw);
         let entry = Booked {
             leaf,
             seat: seat.number,

@@ -33,7 +33,7 @@ impl Model for Register {
     ghost invariant = { λ r. Registered r.entries.items r.index r.width r.counts };
 }
 
-// Returns the number of a mark, by which the index tells marks apart.
+// Returns the number of a mark in a key of the index: 0 for clear, 1 for a rise, 2 for a fall, 3 for undecided.
 fn mark_number(mark: Mark) -> u32
     ensures { result ≡ mark_number mark }
 {
@@ -45,7 +45,8 @@ fn mark_number(mark: Mark) -> u32
     }
 }
 
-// Returns the key of a leaf in the index: its ends, its depth and the number of its mark.
+// Returns the key under which the index keeps a leaf: its two times, its depth and the number of its mark. Two leaves
+// have the same key only if they are equal.
 fn leaf_key(leaf: Leaf) -> ((i64, i64), (u32, u32))
     ensures { result ≡ key_of leaf }
 {
@@ -55,7 +56,8 @@ fn leaf_key(leaf: Leaf) -> ((i64, i64), (u32, u32))
     )
 }
 
-// Returns the width of a leaf: the distance between its ends, in the units of its times.
+// Returns the width of a leaf, in ticks: the distance between its two times. It is at most 2^64, so that 128 bits hold
+// the sum of the widths of all entries.
 fn leaf_width(leaf: Leaf) -> u128
     ensures value { result ≡ unsigned_abs (leaf.node.b -ℤ leaf.node.a) }
     ensures bound { result ≤ 2 ^ 64 }
@@ -77,14 +79,15 @@ impl Register {
         }
     }
 
-    /// Returns the number of entries.
+    /// Returns the number of entries in the register.
     pub fn len(&self) -> usize
         ensures { result ≡ length self.now }
     {
         self.entries.len()
     }
 
-    /// Returns the place of a leaf among the entries, by one look-up in the index, or none.
+    /// Returns the place of a leaf among the entries, counted from 0, or none if no entry has the leaf. It takes one
+    /// look-up in the index.
     pub fn find(&self, leaf: Leaf) -> Option<u32>
         ensures some { IfSome result (λ place. Stands leaf self.now place) }
         ensures none { IfNone result (Fresh leaf self.now) }
@@ -92,7 +95,8 @@ impl Register {
         self.index.get(&leaf_key(leaf)).copied()
     }
 
-    /// Appends an entry. Where memory is out, the register is as before.
+    /// Appends an entry, whose leaf no other entry has, and counts it in the index, the sum of widths and its seat's
+    /// count. The only error is out of memory, and the register is unchanged then.
     pub fn add(&mut self, entry: Booked) -> Result<(), AllocError>
         requires fresh { Fresh entry.leaf self.old }
         requires room { length self.old < 2 ^ 32 - 1 }
@@ -114,7 +118,7 @@ impl Register {
         Ok(())
     }
 
-    /// Returns the entries in order of arrival.
+    /// Turns the register into the list of its entries, in order of arrival. What was kept beside them is dropped.
     pub fn into_entries(self) -> Vec<Booked>
         ensures { result.items ≡ self }
     {

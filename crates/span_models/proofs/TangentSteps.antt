@@ -1,5 +1,5 @@
 -- The numbers of a tangent, as they are passed on.
-use Rattle.std.proofs.Common.{◌≡◌, ◌∙◌, ℕ, ◌+◌, ◌*◌, ◌^◌, ◌≤◌, arith, ℤ, pos, ◌+ℤ◌, ◌-ℤ◌, ◌*ℤ◌, ◌≤ℤ◌, ◌<ℤ◌, unsigned_abs, to_z, of_z, w64}
+use Rattle.std.proofs.Common.{◌≡◌, ◌∙◌, ◌+◌, ◌*◌, ◌^◌, ◌<◌, ◌≤◌, arith, ℤ, pos, ◌+ℤ◌, ◌-ℤ◌, ◌*ℤ◌, ◌≤ℤ◌, ◌<ℤ◌, unsigned_abs, to_z, of_z, w64}
 use Rattle.std.proofs.lemmas.Int.{ints, to_z-of_z, unsigned_abs-mul}
 use Rattle.std.proofs.lemmas.Nat.{mul-le}
 use Rattle.std.specs.Int.{int_max}
@@ -21,27 +21,20 @@ module _ (x z : ℤ) (line : unsigned_abs x ≤ 2 ^ 56) where
   pub part_small : unsigned_abs (floor_div (x *ℤ z) (2 ^ 56)) ≤ unsigned_abs z
   part_small = floor_div-small (x *ℤ z) (2 ^ 56) (unsigned_abs z) (omega arith) product_size
 
-  pub times_kept : (t : ℤ) → unsigned_abs t ≤ 2 ^ 124 → unsigned_abs z ≤ 2 ^ 68 → t ≡ to_z w64 (of_z w64 x) *ℤ to_z w128 (of_z w128 z) → to_z w128 (of_z w128 t) ≡ x *ℤ z
+  pub times_kept : (t : ℤ) → unsigned_abs t < 2 ^ 118 → unsigned_abs z < 2 ^ 62 → t ≡ to_z w64 (of_z w64 x) *ℤ to_z w64 (of_z w64 z) → to_z w128 (of_z w128 t) ≡ x *ℤ z
   times_kept t small zs e =
       let f : to_z w64 (of_z w64 x) ≡ x = to_z-of_z w64 x (omega (arith, ints, line)) in
-      let g : to_z w128 (of_z w128 z) ≡ z = to_z-of_z w128 z (omega (arith, ints, zs)) in
+      let g : to_z w64 (of_z w64 z) ≡ z = to_z-of_z w64 z (omega (arith, ints, zs)) in
       to_z-of_z w128 t (omega (arith, ints, small)) ∙ e ∙ (λ i. f i *ℤ g i)
 
-pub parts_small : (x y z v : ℤ) → unsigned_abs x ≤ 2 ^ 56 → unsigned_abs y ≤ 2 ^ 56 → unsigned_abs (floor_div (x *ℤ z +ℤ y *ℤ v) (2 ^ 56)) ≤ unsigned_abs z + unsigned_abs v
-parts_small x y z v hx hy =
-    let p = product_size x z hx in
-    let q = product_size y v hy in
-    let s : unsigned_abs (x *ℤ z +ℤ y *ℤ v) ≤ unsigned_abs (x *ℤ z) + unsigned_abs (y *ℤ v) = omega (arith, ints) in
-    floor_div-small (x *ℤ z +ℤ y *ℤ v) (2 ^ 56) (unsigned_abs z + unsigned_abs v) (omega arith) (omega (arith, p, q, s))
-
-pub value_kept : (a p : ℤ) → unsigned_abs a ≤ 2 ^ 60 → unsigned_abs p ≤ 2 ^ 64 → to_z w128 (of_z w128 (to_z w128 (of_z w128 (to_z w64 (of_z w64 a))) +ℤ to_z w128 (of_z w128 p))) ≡ a +ℤ p
+pub value_kept : (a p : ℤ) → unsigned_abs a ≤ 2 ^ 60 → unsigned_abs p ≤ 2 ^ 62 → to_z w64 (of_z w64 (to_z w64 (of_z w64 a) +ℤ to_z w64 (of_z w64 p))) ≡ a +ℤ p
 value_kept a p h k = omega (arith, ints, h, k)
 
-pub products_kept : (s t : ℤ) → unsigned_abs s ≤ 2 ^ 124 → unsigned_abs t ≤ 2 ^ 124 → to_z w128 (of_z w128 (to_z w128 (of_z w128 s) +ℤ to_z w128 (of_z w128 t))) ≡ to_z w128 (of_z w128 s) +ℤ to_z w128 (of_z w128 t)
-products_kept s t h k = omega (arith, ints, h, k)
+pub value_fits : (a p : ℤ) → unsigned_abs a ≤ 2 ^ 60 → unsigned_abs p ≤ 2 ^ 62 → SFits w64 (to_z w64 (of_z w64 a) +ℤ to_z w64 (of_z w64 p))
+value_fits a p h k = omega (arith, ints, h, k)
 
-pub part_kept : (z : ℤ) (m : ℕ) → unsigned_abs z ≤ m → m ≤ 2 ^ 126 → to_z w128 (of_z w128 z) ≡ z
-part_kept z m h k = omega (arith, ints, h, k)
+pub products_kept : (s t : ℤ) → unsigned_abs s < 2 ^ 118 → unsigned_abs t < 2 ^ 118 → to_z w128 (of_z w128 (to_z w128 (of_z w128 s) +ℤ to_z w128 (of_z w128 t))) ≡ to_z w128 (of_z w128 s) +ℤ to_z w128 (of_z w128 t)
+products_kept s t h k = omega (arith, ints, h, k)
 
 -- ---- the middle of two arguments
 module _ (first last q : ℤ) (f : IsArgument first q) (l : IsArgument last q) (ordered : first ≤ℤ last) where
@@ -70,12 +63,6 @@ module _ (first last q : ℤ) (f : IsArgument first q) (l : IsArgument last q) (
         low = grind (arith, ints, ew, eo, a, b, ordered);
         high = grind (arith, ints, ew, eo, a, b, ordered);
       }
-
-pub value_fits : (a p : ℤ) → unsigned_abs a ≤ 2 ^ 60 → unsigned_abs p ≤ 2 ^ 64 → SFits w128 (to_z w128 (of_z w128 (to_z w64 (of_z w64 a))) +ℤ to_z w128 (of_z w128 p))
-value_fits a p h k = omega (arith, ints, h, k)
-
-pub value_small : (a p v : ℤ) → unsigned_abs a ≤ 2 ^ 60 → unsigned_abs p ≤ 2 ^ 64 → unsigned_abs p ≤ unsigned_abs v → unsigned_abs (to_z w128 (of_z w128 (to_z w128 (of_z w128 (to_z w64 (of_z w64 a))) +ℤ to_z w128 (of_z w128 p)))) ≤ 2 ^ 60 + unsigned_abs v
-value_small a p v h k l = omega (arith, ints, h, k, l)
 
 pub half_kept : (a b : ℤ) → SFits w64 a → SFits w64 b → to_z w64 (of_z w64 (to_z w128 (of_z w128 (floor_div (a +ℤ b) 2)))) ≡ floor_div (a +ℤ b) 2
 half_kept a b f g =

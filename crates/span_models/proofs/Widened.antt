@@ -69,13 +69,13 @@ pub square_covered : ((m k : Model) (d : ℕ) → SquaresTo m k → IsEnough d k
 square_covered law m k is o h =
     IfSome_then o {P = IsWidenedFor (fraction_mul (greatest m) (greatest m)) k} {Q = λ l. (p q : ℤ) (x : Interval) → IsArgument p q → x.lo ≤ℤ x.hi → Covers m p q x → Covers l p q (signed_square x)} h (λ l w p q x g ox cx. subst (λ (z : Model). Covers z p q (signed_square x)) (sym w.is) (law m k w.units is w.enough p q x g cx))
 
--- ---- signs by the first coefficient
+-- ---- signs by the first coefficient z and the size of all that is known of the model
 pub not_negative : ((x : ℤ) (xs : List ℤ) (e : ℕ) (s : ℤ) → pos (sizes xs + e) ≤ℤ x → IsNotNegative (model (x ∷ xs) e s))
-    → (xs : List ℤ) (e : ℕ) (s : ℤ) → length xs ≡ terms → pos (sizes xs + e) ≤ℤ (pos 2 *ℤ get_or xs 0 (pos 0)) → IsNotNegative (model xs e s)
-not_negative law [] e s count h = absurd (omega (arith, count))
-not_negative law (x ∷ xs) e s count h = law x xs e s (omega (arith, ints, h))
+    → (xs : List ℤ) (e : ℕ) (s z : ℤ) (size : ℕ) → length xs ≡ terms → z ≡ get_or xs 0 (pos 0) → size ≡ sizes xs + e → pos size ≤ℤ (pos 2 *ℤ z) → IsNotNegative (model xs e s)
+not_negative law [] e s z size count first whole h = absurd (omega (arith, count))
+not_negative law (x ∷ xs) e s z size count first whole h = law x xs e s (omega (arith, ints, first, whole, h))
 
 pub not_positive : ((x : ℤ) (xs : List ℤ) (e : ℕ) (s : ℤ) → pos (sizes xs + e) ≤ℤ neg_ℤ x → IsNotPositive (model (x ∷ xs) e s))
-    → (xs : List ℤ) (e : ℕ) (s : ℤ) → length xs ≡ terms → pos (sizes xs + e) ≤ℤ neg_ℤ (pos 2 *ℤ get_or xs 0 (pos 0)) → IsNotPositive (model xs e s)
-not_positive law [] e s count h = absurd (omega (arith, count))
-not_positive law (x ∷ xs) e s count h = law x xs e s (omega (arith, ints, h))
+    → (xs : List ℤ) (e : ℕ) (s z : ℤ) (size : ℕ) → length xs ≡ terms → z ≡ get_or xs 0 (pos 0) → size ≡ sizes xs + e → pos size ≤ℤ neg_ℤ (pos 2 *ℤ z) → IsNotPositive (model xs e s)
+not_positive law [] e s z size count first whole h = absurd (omega (arith, count))
+not_positive law (x ∷ xs) e s z size count first whole h = law x xs e s (omega (arith, ints, first, whole, h))

@@ -1,6 +1,6 @@
 -- How large the numbers of a model in code are.
-use Rattle.std.specs.Prelude.{◌≡◌, ℕ, ◌^◌, ◌≤◌, List, length, All, ℤ, unsigned_abs}
-use Rattle.spec_models.specs.Models.{Model}
+use Rattle.std.specs.Prelude.{◌≡◌, ℕ, ◌*◌, ◌^◌, ◌≤◌, List, length, All, ℤ, unsigned_abs}
+use Rattle.spec_models.specs.Models.{Model, sizes}
 
 -- how many coefficients a model has
 abbrev pub terms : ℕ
@@ -32,3 +32,9 @@ pub record IsSmall (m : Model) : Type 0 where
   pub coefficients : AreWithin size_limit m.coefficients
   pub error : m.error ≤ size_limit
   pub exponent : unsigned_abs m.exponent ≤ exponent_limit
+
+-- with the sum of its coefficients' magnitudes
+pub record IsKept (m : Model) (size : ℕ) : Type 0 where
+  pub small : IsSmall m
+  pub same : size ≡ sizes m.coefficients
+  pub light : size ≤ terms * 2 ^ 60

@@ -42,8 +42,8 @@ tangent l (x ∷ xs) = next l (tangent l xs) x
 
 -- which the code takes
 pub record IsSmallTangent (t : Tangent) : Type 0 where
-  pub value : unsigned_abs t.value < 2 ^ 64
-  pub slope : unsigned_abs t.slope ≤ 2 ^ 68
+  pub value : unsigned_abs t.value < 2 ^ 62
+  pub slope : unsigned_abs t.slope < 2 ^ 62
   pub error : t.error ≤ 2 ^ 62
 
 -- how far numbers up to a spread from a value keep from 0

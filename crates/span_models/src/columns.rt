@@ -1,4 +1,4 @@
-// The coefficients of the product of two polynomials, in 128 bits, and the sizes of coefficients.
+// The coefficients of the product of two polynomials, in 128 bits, and sums of magnitudes of coefficients.
 
 ghost use Rattle.std.specs.Prelude.{◌≡◌, ◌≤◌, ◌<◌, ◌*◌, ◌^◌, ◌*ℤ◌, unsigned_abs};
 ghost use Rattle.span_models.specs.Columns.{column, AreColumns, tail_sizes};
@@ -7,9 +7,10 @@ ghost use Rattle.span_models.specs.Sizes.{size_limit, terms, AreWithin};
 
 use crate::model::TERMS;
 
-/// Returns the first `TERMS` coefficients of the product of two polynomials.
+/// Returns the coefficients of `u^0` to `u^9` of the product of two polynomials with these coefficients. Those of
+/// higher powers are left out: `omitted_size` bounds them.
 #[inline(always)]
-pub(crate) fn columns_of(a: &[i64; TERMS], b: &[i64; TERMS]) -> [i128; TERMS]
+pub(crate) fn product_coefficients(a: &[i64; TERMS], b: &[i64; TERMS]) -> [i128; TERMS]
     requires first { AreWithin size_limit a.now }
     requires second { AreWithin size_limit b.now }
     ensures columns { AreColumns a.now b.now terms result }
@@ -17,14 +18,14 @@ pub(crate) fn columns_of(a: &[i64; TERMS], b: &[i64; TERMS]) -> [i128; TERMS]
 {
     let mut sums = [0; TERMS];
     for k in 0..TERMS {
-        sums[k] = column_of(a, b, k);
+        sums[k] = product_coefficient(a, b, k);
     }
     sums
 }
 
-// Returns the coefficient of `u^k` in the product: the sum of `a[i] b[k - i]`.
+// Returns the coefficient of `u^k` in the product of two polynomials: the sum of `a[i] b[k - i]` over all `i` up to `k`.
 #[inline(always)]
-fn column_of(a: &[i64; TERMS], b: &[i64; TERMS], k: usize) -> i128
+fn product_coefficient(a: &[i64; TERMS], b: &[i64; TERMS], k: usize) -> i128
     requires first { AreWithin size_limit a.now }
     requires second { AreWithin size_limit b.now }
     requires place { k < terms }
@@ -33,15 +34,15 @@ fn column_of(a: &[i64; TERMS], b: &[i64; TERMS], k: usize) -> i128
 {
     let mut sum: i128 = 0;
     for i in 0..k + 1 {
-        sum += times(a[i], b[k - i]);
+        sum += coefficient_product(a[i], b[k - i]);
     }
     sum
 }
 
-/// Returns the sum of `|a[i]| |b[j]|` over `i + j >= TERMS`: the magnitudes of the product's coefficients that are
-/// left out, together. They go into the error.
+/// Returns the sum of `|a[i]| |b[j]|` over all `i + j` of at least `TERMS`. It bounds what the product of two polynomials
+/// has beyond its first `TERMS` coefficients, and goes into the error of a product of models.
 #[inline(always)]
-pub(crate) fn tail_of(a: &[i64; TERMS], b: &[i64; TERMS]) -> u128
+pub(crate) fn omitted_size(a: &[i64; TERMS], b: &[i64; TERMS]) -> u128
     requires first { AreWithin size_limit a.now }
     requires second { AreWithin size_limit b.now }
     ensures equals { result ≡ tail_sizes a.now b.now terms }
@@ -56,9 +57,9 @@ pub(crate) fn tail_of(a: &[i64; TERMS], b: &[i64; TERMS]) -> u128
     sum
 }
 
-/// Returns the sum of the magnitudes of the coefficients, which bounds the polynomial from -1 to 1.
+/// Returns the sum of the magnitudes of the coefficients of a polynomial, which bounds its values from -1 to 1.
 #[inline(always)]
-pub(crate) fn sizes_of(a: &[i64; TERMS]) -> u64
+pub(crate) fn magnitude_sum(a: &[i64; TERMS]) -> u64
     requires small { AreWithin size_limit a.now }
     ensures equals { result ≡ sizes a.now }
     ensures small { result ≤ terms * 2 ^ 60 }
@@ -70,9 +71,10 @@ pub(crate) fn sizes_of(a: &[i64; TERMS]) -> u64
     sum
 }
 
-// Returns the product of two coefficients, by one multiplication of 64-bit numbers.
+/// Returns the exact product of two coefficients, each at most 2^60 in magnitude. Both are extended to 128 bits only so
+/// that the compiler takes one multiplication of 64-bit numbers.
 #[inline(always)]
-fn times(a: i64, b: i64) -> i128
+pub(crate) fn coefficient_product(a: i64, b: i64) -> i128
     requires a_small { unsigned_abs a ≤ size_limit }
     requires b_small { unsigned_abs b ≤ size_limit }
     ensures equals { result ≡ a *ℤ b }

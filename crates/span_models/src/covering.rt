@@ -26,7 +26,7 @@ impl Model {
     {
         operations_are_covered();
         match self.sum(other) {
-            Some(near) => widened_for_sum(&near, self, other),
+            Some(near) => widen_by_sum_rounding(&near, self, other),
             None => None,
         }
     }
@@ -40,7 +40,7 @@ impl Model {
     {
         operations_are_covered();
         match self.difference(other) {
-            Some(near) => widened_for_sum(&near, self, other),
+            Some(near) => widen_by_sum_rounding(&near, self, other),
             None => None,
         }
     }
@@ -54,7 +54,7 @@ impl Model {
     {
         operations_are_covered();
         match self.product(other) {
-            Some(near) => widened_for_product(&near, self, other),
+            Some(near) => widen_by_product_rounding(&near, self, other),
             None => None,
         }
     }
@@ -67,18 +67,19 @@ impl Model {
             → x.lo ≤ℤ x.hi → Covers self.now p q x → Covers m p q (signed_square x)) }
     {
         if is_not_negative(self) {
-            square_above(self)
+            square_of_nonnegative(self)
         } else if is_not_positive(self) {
-            square_below(self)
+            square_of_nonpositive(self)
         } else {
             None
         }
     }
 }
 
-// Returns a model that covers signed squares, for a model near which no number is below 0: the product of the model
-// with itself.
-fn square_above(m: &Model) -> Option<Model>
+// Returns a model that covers the signed squares of the intervals that a model covers, near which no number is below
+// 0. They are plain squares then, so that it is made of the model times itself. None where an exponent or an error
+// passes its limit.
+fn square_of_nonnegative(m: &Model) -> Option<Model>
     requires { IsNotNegative m.now }
     ensures { IfSome result (λ l. (p q : ℤ) (x : Interval) → IsArgument p q
         → x.lo ≤ℤ x.hi → Covers m.now p q x → Covers l p q (signed_square x)) }
@@ -86,14 +87,15 @@ fn square_above(m: &Model) -> Option<Model>
     operations_are_covered();
     signed_squares_are_products();
     match m.product(m) {
-        Some(near) => widened_for_product(&near, m, m),
+        Some(near) => widen_by_product_rounding(&near, m, m),
         None => None,
     }
 }
 
-// Returns a model that covers signed squares, for a model near which no number is above 0: the negated product of the
-// model with itself.
-fn square_below(m: &Model) -> Option<Model>
+// Returns a model that covers the signed squares of the intervals that a model covers, near which no number is above
+// 0. They are negated squares then, so that it is made of the model times itself, negated. None where an exponent or
+// an error passes its limit.
+fn square_of_nonpositive(m: &Model) -> Option<Model>
     requires { IsNotPositive m.now }
     ensures { IfSome result (λ l. (p q : ℤ) (x : Interval) → IsArgument p q
         → x.lo ≤ℤ x.hi → Covers m.now p q x → Covers l p q (signed_square x)) }
@@ -102,12 +104,13 @@ fn square_below(m: &Model) -> Option<Model>
     operations_are_covered();
     signed_squares_are_products();
     match m.product(m) {
-        Some(near) => widened_for_product(&near.negated(), m, m),
+        Some(near) => widen_by_product_rounding(&near.negated(), m, m),
         None => None,
     }
 }
 
-// Tells whether the first coefficient shows that no number near a model is below 0.
+// Tells whether no number near a model is below 0, as its first coefficient shows: it is at least as great as all
+// other coefficients and the error together. `false` says nothing.
 fn is_not_negative(m: &Model) -> bool
     ensures { IsTrue result → IsNotNegative m.now }
 {
@@ -115,31 +118,32 @@ fn is_not_negative(m: &Model) -> bool
     is_at_most_twice(m.bulk(), m.coefficients()[0])
 }
 
-// Tells whether the first coefficient shows that no number near a model is above 0.
+// Tells whether no number near a model is above 0, as its first coefficient shows: negated, it is at least as great as
+// all other coefficients and the error together. `false` says nothing.
 fn is_not_positive(m: &Model) -> bool
     ensures { IsTrue result → IsNotPositive m.now }
 {
     signed_squares_are_products();
-    is_at_most_twice_below(m.bulk(), m.coefficients()[0])
+    is_at_most_minus_twice(m.bulk(), m.coefficients()[0])
 }
 
-// Tells whether a size is at most `2 z`.
+// Tells whether a magnitude is at most twice a number. `false` is not claimed to mean anything.
 fn is_at_most_twice(size: u64, z: i64) -> bool
     ensures { IsTrue result → pos size ≤ℤ (pos 2 *ℤ z) }
 {
     size as i128 <= 2 * (z as i128)
 }
 
-// Tells whether a size is at most `-2 z`.
-fn is_at_most_twice_below(size: u64, z: i64) -> bool
+// Tells whether a magnitude is at most twice a negated number. `false` is not claimed to mean anything.
+fn is_at_most_minus_twice(size: u64, z: i64) -> bool
     ensures { IsTrue result → pos size ≤ℤ neg_ℤ (pos 2 *ℤ z) }
 {
     size as i128 <= -(2 * (z as i128))
 }
 
-// Widens the model `k` of a sum or difference of `m` and `n` by what the rules of intervals round. None where its
-// exponent is below one of theirs, or its error passes the limit.
-fn widened_for_sum(k: &Model, m: &Model, n: &Model) -> Option<Model>
+// Returns the model `k` of a sum or difference of numbers near `m` and `n`, its error widened by what the rules of
+// intervals round of such a sum. None where the exponent of `k` is below one of theirs, or the error passes the limit.
+fn widen_by_sum_rounding(k: &Model, m: &Model, n: &Model) -> Option<Model>
     ensures { IfSome result
         (IsWidenedFor (fraction_add (greatest m.now) (greatest n.now)) k.now) }
 {
@@ -149,13 +153,13 @@ fn widened_for_sum(k: &Model, m: &Model, n: &Model) -> Option<Model>
     } else if k.exponent() < n.exponent() {
         None
     } else {
-        k.widened(slight_of_sum(m.bulk(), n.bulk()))
+        k.widened(sum_rounding_units(m.bulk(), n.bulk()))
     }
 }
 
-// Widens the model `k` of the product of `m` and `n` by what the rules of intervals round. None where its exponent is
-// below the sum of theirs, or its error passes the limit.
-fn widened_for_product(k: &Model, m: &Model, n: &Model) -> Option<Model>
+// Returns the model `k` of products of numbers near `m` and `n`, its error widened by what the rules of intervals round
+// of such a product. None where the exponent of `k` is below the sum of theirs, or the error passes the limit.
+fn widen_by_product_rounding(k: &Model, m: &Model, n: &Model) -> Option<Model>
     ensures { IfSome result
         (IsWidenedFor (fraction_mul (greatest m.now) (greatest n.now)) k.now) }
 {
@@ -165,22 +169,23 @@ fn widened_for_product(k: &Model, m: &Model, n: &Model) -> Option<Model>
         return None;
     }
     let gap = exponent_gap(exponent, k.exponent());
-    match slight_of_product(m.bulk(), n.bulk(), gap) {
+    match product_rounding_units(m.bulk(), n.bulk(), gap) {
         Some(units) => k.widened(units),
         None => None,
     }
 }
 
-// Returns at least the 2^58th part of a sum, which is what an interval's rounding may add to it.
-fn slight_of_sum(m: u64, n: u64) -> u64
+// Returns a whole number of units that is at least the sum of two magnitudes divided by 2^58, which is the most that
+// rounding adds to an interval of sums.
+fn sum_rounding_units(m: u64, n: u64) -> u64
     ensures { m + n ≤ result * 2 ^ 58 }
 {
     ((m as u128 + n as u128) >> 58) as u64 + 1
 }
 
-// Returns at least the 2^58th part of a product, in units that are 2^gap as great. None where there are more than
-// 2^60 units.
-fn slight_of_product(m: u64, n: u64, gap: u32) -> Option<u64>
+// Returns a whole number of units that is at least the product of two magnitudes divided by 2^58, where a unit is 2^gap
+// times that of the product. Rounding adds no more to an interval of products. None where the number is above 2^60.
+fn product_rounding_units(m: u64, n: u64, gap: u32) -> Option<u64>
     ensures { IfSome result (λ units. m * n ≤ units * 2 ^ (58 + gap)) }
 {
     let units = ((m as u128 * n as u128) >> (58 + gap.min(69))) + 1;

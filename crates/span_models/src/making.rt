@@ -25,9 +25,9 @@ impl Model {
     {
         changes();
         lists();
-        let j = fine_shift(greatest_of(first, second, error));
-        let wide = line_of(lifted(first, j), lifted(second, j));
-        settled(&wide, lifted_error(error, j), exponent - j as i32)
+        let j = spare_bits(greatest_magnitude(first, second, error));
+        let wide = line_coefficients(power_multiple(first, j), power_multiple(second, j));
+        settled(&wide, error_in_finer_unit(error, j), exponent - j as i32)
     }
 
     /// Returns a model that covers an interval at each argument: the model of its middle, with half its width as
@@ -39,7 +39,7 @@ impl Model {
         lists();
         let (lo, hi, exponent) = x.parts();
         if exponent.unsigned_abs() <= EXPONENT_LIMIT {
-            let (middle, error) = middle_of(lo, hi);
+            let (middle, error) = middle_and_distance(lo, hi);
             Model::of_line(middle, 0, error, exponent)
         } else {
             None
@@ -47,15 +47,17 @@ impl Model {
     }
 }
 
-// Returns the greatest magnitude of three numbers. Nothing is claimed of it, since it chooses a unit alone.
+// Returns the greatest magnitude of two coefficients and an error. No contract says so, because the number only chooses
+// the unit of a model, and each unit gives a right one.
 #[inline(always)]
-fn greatest_of(first: i64, second: i64, error: u64) -> u64 {
+fn greatest_magnitude(first: i64, second: i64, error: u64) -> u64 {
     first.unsigned_abs().max(second.unsigned_abs()).max(error)
 }
 
-// Returns by how many bits the unit of numbers of this size can be made finer: up to 58, and 0 for the size 0.
+// Returns by how many powers of 2 the unit can be made finer so that a number of this magnitude stays below 2^59: at
+// most 58, and 0 for a magnitude of 0. Only the greatest result is claimed, which no shift may pass.
 #[inline(always)]
-fn fine_shift(size: u64) -> u32
+fn spare_bits(size: u64) -> u32
     ensures { result ≤ 58 }
 {
     if size >= 1 << 58 {
@@ -67,27 +69,27 @@ fn fine_shift(size: u64) -> u32
     }
 }
 
-// Returns `2^j z`.
+// Returns `2^j z`, the coefficient `z` in a unit that is 2^j times finer.
 #[inline(always)]
-fn lifted(z: i64, j: u32) -> i128
+fn power_multiple(z: i64, j: u32) -> i128
     requires { j ≤ 58 }
     ensures { result ≡ pos (2 ^ j) *ℤ z }
 {
     (1i128 << (j % 64)) * z as i128
 }
 
-// Returns `2^j error`.
+// Returns `2^j error`, the error in a unit that is 2^j times finer.
 #[inline(always)]
-fn lifted_error(error: u64, j: u32) -> u128
+fn error_in_finer_unit(error: u64, j: u32) -> u128
     requires { j ≤ 58 }
     ensures { result ≡ error * 2 ^ j }
 {
     error as u128 * (1u128 << (j % 64))
 }
 
-// Returns the coefficients `first`, `second`, and 0 for all others.
+// Returns the coefficients of the line `first + second u`: these two, and 0 for all others.
 #[inline(always)]
-fn line_of(first: i128, second: i128) -> [i128; TERMS]
+fn line_coefficients(first: i128, second: i128) -> [i128; TERMS]
     ensures coefficients { (k : ℕ) → coefficient (first ∷ second ∷ []) k ≡ coefficient result k }
     ensures count { length result ≡ terms }
 {
@@ -97,20 +99,21 @@ fn line_of(first: i128, second: i128) -> [i128; TERMS]
     wide
 }
 
-// Returns the middle of two ends in order, rounded down, and the greater distance of an end from it.
+// Returns the middle of an interval with these ends, rounded down, and the distance of the upper end from it, which is
+// the greater one.
 #[inline(always)]
-fn middle_of(lo: i128, hi: i128) -> (i64, u64)
+fn middle_and_distance(lo: i128, hi: i128) -> (i64, u64)
     requires lo_small { unsigned_abs lo ≤ 2 ^ 62 }
     requires hi_small { unsigned_abs hi ≤ 2 ^ 62 }
     requires ordered { lo ≤ℤ hi }
     ensures { IsMiddle lo hi result.0 result.1 }
 {
     let middle = half_sum(lo, hi);
-    let distance = distance_to(middle, hi);
+    let distance = distance_above(middle, hi);
     (middle, distance)
 }
 
-// Returns `(lo + hi) / 2`, rounded down.
+// Returns half the sum of two ends of an interval, rounded down.
 #[inline(always)]
 fn half_sum(lo: i128, hi: i128) -> i64
     requires lo_small { unsigned_abs lo ≤ 2 ^ 62 }
@@ -120,9 +123,9 @@ fn half_sum(lo: i128, hi: i128) -> i64
     ((lo + hi) >> 1) as i64
 }
 
-// Returns by how much the second number is above the first.
+// Returns by how much the upper end of an interval is above its middle.
 #[inline(always)]
-fn distance_to(low: i64, high: i128) -> u64
+fn distance_above(low: i64, high: i128) -> u64
     requires low_small { unsigned_abs low ≤ 2 ^ 62 }
     requires high_small { unsigned_abs high ≤ 2 ^ 62 }
     requires ordered { low ≤ℤ high }

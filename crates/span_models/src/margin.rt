@@ -1,6 +1,6 @@
 // The distance that the numbers near a model keep from 0.
 
-ghost use Rattle.std.specs.Prelude.{◌+◌, ℤ, ◌≤ℤ◌, ◌<◌, ◌≤◌, ◌^◌, unsigned_abs, IfSome};
+ghost use Rattle.std.specs.Prelude.{◌+◌, ℤ, ◌≤ℤ◌, ◌<◌, ◌≤◌, unsigned_abs, IfSome};
 ghost use Rattle.spec_intervals.specs.Fraction.{Fraction};
 ghost use Rattle.spec_chebyshev.specs.Differences.{IsArgument};
 ghost use Rattle.spec_models.specs.Models.{IsNear};
@@ -8,7 +8,7 @@ ghost use Rattle.span_models.specs.Margins.{KeepsFrom};
 ghost use Rattle.span_models.specs.Tangents.{IsMarginOf, IsSmallTangent};
 
 use crate::model::Model;
-use crate::tangents::{Tangent, line_of, place_of, tangent_of};
+use crate::tangents::{Tangent, line_in_units, middle_and_width, tangent_on_line};
 use spec_models::model_laws::{
     arguments, betweens, changes, constants, lists, operations, widenings,
 };
@@ -48,11 +48,11 @@ impl Model {
         lists();
         operations();
         widenings();
-        let (middle, width) = place_of(first, last, q);
-        let line = line_of(middle, width, q);
-        match tangent_of(self.coefficients(), &line) {
+        let (middle, width) = middle_and_width(first, last, q);
+        let line = line_in_units(middle, width, q);
+        match tangent_on_line(self.coefficients(), &line) {
             Some(known) => Outlook {
-                margin: margin_by(&known, self.error(), self.exponent()),
+                margin: tangent_margin(&known, self.error(), self.exponent()),
                 is_blurred: is_blurred(&known, self.error()),
             },
             None => Outlook {
@@ -63,33 +63,34 @@ impl Model {
     }
 }
 
-// Tells whether a tangent, with its own error, is nowhere farther from 0 than the model's error. Then no part of its
-// arguments has a margin.
+// Tells whether a tangent, its own error included, is nowhere farther from 0 than the error of the model that it
+// belongs to. No part of its arguments has a margin then. No contract says so, because the answer only saves work.
 #[inline(always)]
 fn is_blurred(known: &Tangent, error: u64) -> bool
     requires known { IsSmallTangent known.now }
 {
-    known.value.unsigned_abs() + known.slope.unsigned_abs() + known.error <= error as u128
+    known.value.unsigned_abs() + known.slope.unsigned_abs() + known.error <= error
 }
 
-// Returns the margin of all numbers that are within an error of a tangent, or none.
+// Returns the distance from 0 that all numbers within an error of a tangent keep, in units of `2^exponent`. None where
+// some of them may be 0.
 #[inline(always)]
-fn margin_by(known: &Tangent, error: u64, exponent: i32) -> Option<Margin>
+fn tangent_margin(known: &Tangent, error: u64, exponent: i32) -> Option<Margin>
     requires known { IsSmallTangent known.now }
     ensures { IfSome result (IsMarginOf known.now.value
         (known.now.error + error + unsigned_abs known.now.slope) exponent) }
 {
-    let spread = known.error + error as u128 + known.slope.unsigned_abs();
-    margin_beyond(known.value, spread, exponent)
+    let spread = (known.error + known.slope.unsigned_abs()) as u128 + error as u128;
+    margin_beyond_spread(known.value, spread, exponent)
 }
 
-// Returns the margin of all numbers up to a spread from a value, or none where the spread reaches 0.
+// Returns the distance from 0 that all numbers up to a spread from a value keep, in units of `2^exponent`. None where
+// the spread reaches 0.
 #[inline(always)]
-fn margin_beyond(value: i128, spread: u128, exponent: i32) -> Option<Margin>
-    requires { unsigned_abs value < 2 ^ 64 }
+fn margin_beyond_spread(value: i64, spread: u128, exponent: i32) -> Option<Margin>
     ensures { IfSome result (IsMarginOf value spread exponent) }
 {
-    let size = value.unsigned_abs();
+    let size = value.unsigned_abs() as u128;
     if size > spread {
         Some(Margin {
             is_above: value > 0,

@@ -1,4 +1,4 @@
-// Large coefficients, rounded to a coarser unit in which they are those of a model.
+// Models made of large coefficients: these are rounded to a coarser unit, in which they are within the limits.
 
 ghost use Rattle.std.specs.Prelude.{◌≡◌, ◌≤◌, ◌<◌, ◌+◌, ◌*◌, ◌^◌, pos, ◌+ℤ◌, unsigned_abs, IfSome, ◌↔◌, IsTrue, length};
 ghost use Rattle.spec_numbers.specs.Numbers.{floor_div};
@@ -16,8 +16,8 @@ const EXPONENT_LIMIT: u32 = 1 << 20;
 /// itself.
 pub(crate) const ROUNDING: u64 = TERMS as u64 + 1;
 
-/// Returns a model near which all is that is near the polynomial of these coefficients with this error, in units of
-/// `2^exponent`. None where its own exponent passes the limit.
+/// Returns a model near which all numbers are that are near the polynomial with these coefficients and this error, in
+/// units of `2^exponent`. Its unit is the finest in which they are below 2^59. None where its exponent passes the limit.
 #[inline(always)]
 pub fn settled(wide: &[i128; TERMS], error: u128, exponent: i32) -> Option<Model>
     requires exponent { unsigned_abs exponent ≤ 2 ^ 22 }
@@ -25,19 +25,19 @@ pub fn settled(wide: &[i128; TERMS], error: u128, exponent: i32) -> Option<Model
     ensures { IfSome result (λ m. Reaches (model wide.now error exponent) m) }
 {
     changes();
-    let k = settling_shift(greatest_size(wide, error));
+    let k = normalizing_shift(magnitude_bound(wide, error));
     let coarser = exponent + k as i32;
-    if is_exponent(coarser) {
-        Some(settled_by(wide, error, exponent, k))
+    if is_model_exponent(coarser) {
+        Some(rounded_model(wide, error, exponent, k))
     } else {
         None
     }
 }
 
-// Returns a bound of the magnitudes of all coefficients and of the error, with no more bits than the greatest of
-// them.
+// Returns a bound of the magnitudes of all coefficients and of the error. It has no more bits than the greatest of them,
+// because it joins their bits, which takes fewer steps than comparing them.
 #[inline(always)]
-fn greatest_size(wide: &[i128; TERMS], error: u128) -> u128
+fn magnitude_bound(wide: &[i128; TERMS], error: u128) -> u128
     requires count { length wide.now ≡ terms }
     ensures error { error ≤ result }
     ensures coefficients { AreWithin result wide.now }
@@ -49,26 +49,27 @@ fn greatest_size(wide: &[i128; TERMS], error: u128) -> u128
     size
 }
 
-// Returns the least number of halvings that bring a number of this size below 2^59.
+// Returns the least number of halvings that bring a number of this magnitude below 2^59: 0 where it is below already.
 #[inline(always)]
-fn settling_shift(size: u128) -> u32
+fn normalizing_shift(size: u128) -> u32
     ensures enough { size < settled_limit * 2 ^ result }
     ensures few { result ≤ 69 }
 {
     if size < 1 << 59 { 0 } else { size.ilog2() - 58 }
 }
 
-// Tells whether an exponent is at most 2^20 in magnitude.
+// Tells whether an exponent is within the limit of models, 2^20 in magnitude.
 #[inline(always)]
-fn is_exponent(exponent: i32) -> bool
+fn is_model_exponent(exponent: i32) -> bool
     ensures { IsTrue result ↔ unsigned_abs exponent ≤ exponent_limit }
 {
     exponent.unsigned_abs() <= EXPONENT_LIMIT
 }
 
-// Returns the model of coefficients and an error that are halved `k` times, which brings them within the limits.
+// Returns the model of these coefficients and this error in a unit that is 2^k times coarser, in which they are within
+// the limits. Coefficients are rounded down, and the error takes in what that changes.
 #[inline(always)]
-fn settled_by(wide: &[i128; TERMS], error: u128, exponent: i32, k: u32) -> Model
+fn rounded_model(wide: &[i128; TERMS], error: u128, exponent: i32, k: u32) -> Model
     requires coefficients { AreWithin (settled_limit * 2 ^ k) wide.now }
     requires error { error < settled_limit * 2 ^ k }
     requires exponent { unsigned_abs exponent ≤ 2 ^ 22 }
@@ -76,12 +77,16 @@ fn settled_by(wide: &[i128; TERMS], error: u128, exponent: i32, k: u32) -> Model
     requires few { k ≤ 69 }
     ensures { result ≡ at_coarser k (model wide.now error exponent) }
 {
-    Model::of_parts(halved_by(wide, k), error_by(error, k), exponent + k as i32)
+    Model::of_parts(
+        rounded_coefficients(wide, k),
+        rounded_error(error, k),
+        exponent + k as i32,
+    )
 }
 
-// Returns each coefficient divided by 2^k, rounded down.
+// Returns each coefficient divided by 2^k and rounded down, in order.
 #[inline(always)]
-fn halved_by(wide: &[i128; TERMS], k: u32) -> [i64; TERMS]
+fn rounded_coefficients(wide: &[i128; TERMS], k: u32) -> [i64; TERMS]
     requires small { AreWithin (settled_limit * 2 ^ k) wide.now }
     requires few { k ≤ 69 }
     ensures equals { result ≡ halved k wide.now }
@@ -89,14 +94,14 @@ fn halved_by(wide: &[i128; TERMS], k: u32) -> [i64; TERMS]
 {
     let mut halves = [0; TERMS];
     for i in 0..TERMS {
-        halves[i] = shifted(wide[i], k);
+        halves[i] = floor_shift(wide[i], k);
     }
     halves
 }
 
-// Returns `z / 2^k`, rounded down.
+// Returns `z / 2^k` rounded down, which is at most 2^59 in magnitude.
 #[inline(always)]
-fn shifted(z: i128, k: u32) -> i64
+fn floor_shift(z: i128, k: u32) -> i64
     requires small { unsigned_abs z ≤ settled_limit * 2 ^ k }
     requires few { k ≤ 69 }
     ensures equals { result ≡ floor_div z (2 ^ k) }
@@ -105,10 +110,10 @@ fn shifted(z: i128, k: u32) -> i64
     (z >> k) as i64
 }
 
-// Returns the error in units that are 2^k as great: rounded up, and one unit more for each coefficient that is
-// rounded.
+// Returns an error in a unit that is 2^k times coarser: rounded up, and one unit more for each coefficient that is
+// rounded. It stays as it is for a `k` of 0.
 #[inline(always)]
-fn error_by(error: u128, k: u32) -> u64
+fn rounded_error(error: u128, k: u32) -> u64
     requires small { error < settled_limit * 2 ^ k }
     requires few { k ≤ 69 }
     ensures equals { result ≡ raised_error k error }

@@ -9,9 +9,10 @@ ghost use Rattle.span_models.specs.Settled.{raised_error};
 use crate::model::TERMS;
 use crate::settling::ROUNDING;
 
-/// Returns the sums of coefficients `a`, each divided by 2^k and rounded down, and coefficients `b`.
+/// Returns the coefficients of the sum of two polynomials, whose first has a unit that is 2^k times finer: each of its
+/// coefficients is divided by 2^k and rounded down, and added to that of the second.
 #[inline(always)]
-pub(crate) fn sums_of(a: &[i64; TERMS], k: u32, b: &[i64; TERMS]) -> [i128; TERMS]
+pub(crate) fn coefficient_sums(a: &[i64; TERMS], k: u32, b: &[i64; TERMS]) -> [i128; TERMS]
     requires first { AreWithin size_limit a.now }
     requires second { AreWithin size_limit b.now }
     ensures equals { result ≡ added (halved k a.now) b.now }
@@ -19,14 +20,14 @@ pub(crate) fn sums_of(a: &[i64; TERMS], k: u32, b: &[i64; TERMS]) -> [i128; TERM
 {
     let mut sums = [0; TERMS];
     for i in 0..TERMS {
-        sums[i] = sum_of_two(a[i], k, b[i]);
+        sums[i] = coefficient_sum(a[i], k, b[i]);
     }
     sums
 }
 
-// Returns `floor(a / 2^k) + b`, for any `k`.
+// Returns `floor(a / 2^k) + b`. The shift is capped at 63, past which the quotient does not change.
 #[inline(always)]
-fn sum_of_two(a: i64, k: u32, b: i64) -> i128
+fn coefficient_sum(a: i64, k: u32, b: i64) -> i128
     requires a_small { unsigned_abs a ≤ size_limit }
     requires b_small { unsigned_abs b ≤ size_limit }
     ensures equals { result ≡ floor_div a (2 ^ k) +ℤ b }
@@ -35,10 +36,10 @@ fn sum_of_two(a: i64, k: u32, b: i64) -> i128
     ((a >> k.min(63)) + b) as i128
 }
 
-/// Returns the error in units that are 2^k as great, for any `k`: rounded up, and one unit more for each coefficient
+/// Returns an error in a unit that is 2^k times coarser, for any `k`: rounded up, and one unit more for each coefficient
 /// that is rounded. It stays as it is for a `k` of 0.
 #[inline(always)]
-pub(crate) fn coarser_error(error: u64, k: u32) -> u64
+pub(crate) fn error_in_coarser_unit(error: u64, k: u32) -> u64
     requires { error ≤ size_limit }
     ensures equals { result ≡ raised_error k error }
     ensures small { result ≤ size_limit + terms + 1 }
@@ -50,7 +51,7 @@ pub(crate) fn coarser_error(error: u64, k: u32) -> u64
     }
 }
 
-/// How far one exponent is above another.
+/// Returns by how much the exponent `high` is above `low`.
 #[inline(always)]
 pub(crate) fn exponent_gap(low: i32, high: i32) -> u32
     requires order { low ≤ℤ high }
@@ -61,23 +62,23 @@ pub(crate) fn exponent_gap(low: i32, high: i32) -> u32
     (high - low) as u32
 }
 
-/// Returns each coefficient negated.
+/// Returns each coefficient of a polynomial negated, in order.
 #[inline(always)]
-pub(crate) fn opposite_of(a: &[i64; TERMS]) -> [i64; TERMS]
+pub(crate) fn negated_coefficients(a: &[i64; TERMS]) -> [i64; TERMS]
     requires { AreWithin size_limit a.now }
     ensures equals { result ≡ opposite a.now }
     ensures small { AreWithin size_limit result }
 {
     let mut negated = [0; TERMS];
     for i in 0..TERMS {
-        negated[i] = minus(a[i]);
+        negated[i] = negated_coefficient(a[i]);
     }
     negated
 }
 
-// Returns `-z`.
+// Returns a coefficient negated, which is at most 2^60 in magnitude.
 #[inline(always)]
-fn minus(z: i64) -> i64
+fn negated_coefficient(z: i64) -> i64
     requires { unsigned_abs z ≤ size_limit }
     ensures equals { result ≡ neg_ℤ z }
     ensures small { unsigned_abs result ≤ size_limit }

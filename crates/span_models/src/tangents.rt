@@ -1,6 +1,6 @@
 // The line that a polynomial is near, from one argument to another, by Horner's rule for its value and slope.
 
-ghost use Rattle.std.specs.Prelude.{◌≡◌, ◌≤◌, ◌<◌, ◌+◌, ◌*◌, ◌^◌, pos, ◌+ℤ◌, ◌*ℤ◌, ◌-ℤ◌, ◌≤ℤ◌, ◌<ℤ◌, unsigned_abs, IfSome};
+ghost use Rattle.std.specs.Prelude.{◌≡◌, ◌≤◌, ◌<◌, ◌+◌, ◌*◌, ◌^◌, pos, ◌+ℤ◌, ◌*ℤ◌, ◌-ℤ◌, ◌≤ℤ◌, ◌<ℤ◌, unsigned_abs, IfSome, IsTrue};
 ghost use Rattle.std.specs.Int.{int_max};
 ghost use Rattle.spec_numbers.specs.Numbers.{floor_div};
 ghost use Rattle.spec_chebyshev.specs.Differences.{IsArgument, Within};
@@ -20,28 +20,30 @@ pub struct Line {
 /// to 1.
 #[derive(Clone, Copy)]
 pub struct Tangent {
-    pub value: i128,
-    pub slope: i128,
-    pub error: u128,
+    pub value: i64,
+    pub slope: i64,
+    pub error: u64,
 }
 
-/// The greatest error of a tangent; past it nothing useful is known.
-const ERROR_LIMIT: u128 = 1 << 62;
+/// The limit of the numbers of a tangent. Past it nothing useful is known, and below it a step of Horner's rule stays
+/// within 64 bits.
+const LIMIT: u64 = 1 << 62;
 
-/// Returns the middle of two arguments over `q`, rounded down, and the distance of the last from it, at least 1.
+/// Returns the middle of the arguments from `first / q` to `last / q`, as a number over `q` that is rounded down, and the
+/// distance of the last from it, which is at least 1.
 #[inline(always)]
-pub(crate) fn place_of(first: i64, last: i64, q: i64) -> (i64, i64)
+pub(crate) fn middle_and_width(first: i64, last: i64, q: i64) -> (i64, i64)
     requires first { IsArgument first q }
     requires last { IsArgument last q }
     requires ordered { first ≤ℤ last }
     ensures { IsPlace first last q result.0 result.1 }
 {
     let middle = half_sum(first, last, q);
-    let width = width_from(middle, last, q);
+    let width = width_above_middle(middle, last, q);
     (middle, width)
 }
 
-// Returns `(first + last) / 2`, rounded down.
+// Returns half the sum of two arguments over `q`, rounded down.
 #[inline(always)]
 fn half_sum(first: i64, last: i64, q: i64) -> i64
     requires first { IsArgument first q }
@@ -51,9 +53,9 @@ fn half_sum(first: i64, last: i64, q: i64) -> i64
     ((first as i128 + last as i128) >> 1) as i64
 }
 
-// Returns by how much the last argument is above the middle, at least 1.
+// Returns by how much the last argument is above the middle, both over `q`, or 1 where they are equal.
 #[inline(always)]
-fn width_from(middle: i64, last: i64, q: i64) -> i64
+fn width_above_middle(middle: i64, last: i64, q: i64) -> i64
     requires ordered { middle ≤ℤ last }
     requires near { last ≤ℤ (middle +ℤ q) }
     ensures { result ≡ int_max (pos 1) (last -ℤ middle) }
@@ -61,9 +63,10 @@ fn width_from(middle: i64, last: i64, q: i64) -> i64
     (last as i128 - middle as i128).max(1) as i64
 }
 
-/// Returns the line of a middle and a width over `q`, both rounded down to units of 2^-56.
+/// Returns the line of arguments with this middle and this width, both over `q`. It has them in units of 2^-56, rounded
+/// down.
 #[inline(always)]
-pub(crate) fn line_of(middle: i64, width: i64, q: i64) -> Line
+pub(crate) fn line_in_units(middle: i64, width: i64, q: i64) -> Line
     requires positive { pos 0 <ℤ q }
     requires middle { Within middle q }
     requires width { Within width q }
@@ -71,25 +74,25 @@ pub(crate) fn line_of(middle: i64, width: i64, q: i64) -> Line
     ensures small { IsLine result }
 {
     Line {
-        centre: ratio_of(middle, q),
-        width: ratio_of(width, q),
+        centre: ratio_in_units(middle, q),
+        width: ratio_in_units(width, q),
     }
 }
 
-// Returns `2^56 z / q`, rounded down.
+// Returns `z / q` in units of 2^-56, rounded down.
 #[inline(always)]
-fn ratio_of(z: i64, q: i64) -> i64
+fn ratio_in_units(z: i64, q: i64) -> i64
     requires positive { pos 0 <ℤ q }
     requires inside { Within z q }
     ensures equals { result ≡ ratio z q }
     ensures small { unsigned_abs result ≤ 2 ^ 56 }
 {
-    quotient(z as i128 * (1 << 56), q as u64)
+    floor_quotient(z as i128 * (1 << 56), q as u64)
 }
 
-// Returns `z / d`, rounded down, where it is at most 2^56 in magnitude.
+// Returns `z / d` rounded down, for a quotient that is at most 2^56 in magnitude.
 #[inline(always)]
-fn quotient(z: i128, d: u64) -> i64
+fn floor_quotient(z: i128, d: u64) -> i64
     requires positive { 0 < d }
     requires small { unsigned_abs z ≤ 2 ^ 56 * d }
     ensures { result ≡ floor_div z d }
@@ -97,9 +100,10 @@ fn quotient(z: i128, d: u64) -> i64
     z.div_euclid(d as i128) as i64
 }
 
-/// Returns the tangent of a polynomial on a line, by Horner's rule. None where its error passes the limit.
+/// Returns the tangent of a polynomial on a line, by Horner's rule. None where one of its numbers passes the limit, or
+/// one of the tangent of its upper coefficients.
 #[inline(always)]
-pub(crate) fn tangent_of(a: &[i64; TERMS], line: &Line) -> Option<Tangent>
+pub(crate) fn tangent_on_line(a: &[i64; TERMS], line: &Line) -> Option<Tangent>
     requires small { AreWithin size_limit a.now }
     requires line { IsLine line.now }
     ensures equals { IfSome result (λ t. t ≡ tangent line.now a.now) }
@@ -111,127 +115,128 @@ pub(crate) fn tangent_of(a: &[i64; TERMS], line: &Line) -> Option<Tangent>
         error: 0,
     };
     for i in 0..TERMS {
-        if known.error > ERROR_LIMIT {
+        if !is_small(&known) {
             return None;
         }
-        known = next_of(line, &known, a[TERMS - 1 - i]);
+        known = next_tangent(line, &known, a[TERMS - 1 - i]);
     }
-    if known.error > ERROR_LIMIT {
-        None
-    } else {
-        Some(known)
-    }
+    if is_small(&known) { Some(known) } else { None }
 }
 
-// Returns the tangent after one more step of Horner's rule, with the next lower coefficient.
+// Tells whether the value, the slope and the error of a tangent are within the limit. `false` is not claimed to mean
+// anything.
 #[inline(always)]
-fn next_of(line: &Line, known: &Tangent, a: i64) -> Tangent
+fn is_small(known: &Tangent) -> bool
+    ensures { IsTrue result → IsSmallTangent known.now }
+{
+    known.value.unsigned_abs() < LIMIT && known.slope.unsigned_abs() < LIMIT && known.error <= LIMIT
+}
+
+// Returns the tangent of a polynomial after one more step of Horner's rule, which multiplies the known one by the
+// argument and adds the next lower coefficient.
+#[inline(always)]
+fn next_tangent(line: &Line, known: &Tangent, a: i64) -> Tangent
     requires line { IsLine line.now }
     requires known { IsSmallTangent known.now }
     requires small { unsigned_abs a ≤ size_limit }
-    ensures equals { result ≡ next line.now known.now a }
-    ensures value { unsigned_abs result.value ≤ size_limit + unsigned_abs known.now.value }
-    ensures slope { unsigned_abs result.slope
-        ≤ unsigned_abs known.now.slope + unsigned_abs known.now.value }
+    ensures { result ≡ next line.now known.now a }
 {
-    let beside = times(line.width, known.slope);
-    let value = value_of(line, known, a);
-    let slope = slope_of(line, known);
-    let error = error_of(line, known, beside);
     Tangent {
-        value,
-        slope,
-        error,
+        value: next_value(line, known, a),
+        slope: next_slope(line, known),
+        error: next_error(line, known),
     }
 }
 
-// Returns the value after one more step of Horner's rule: the coefficient, and the value times the centre.
+// Returns the value of a tangent after one more step of Horner's rule: the next coefficient, and the known value times
+// the centre of the line.
 #[inline(always)]
-fn value_of(line: &Line, known: &Tangent, a: i64) -> i128
+fn next_value(line: &Line, known: &Tangent, a: i64) -> i64
     requires line { IsLine line.now }
     requires known { IsSmallTangent known.now }
     requires small { unsigned_abs a ≤ size_limit }
-    ensures equals { result ≡ a +ℤ floor_div (line.now.centre *ℤ known.now.value) (2 ^ 56) }
-    ensures small { unsigned_abs result ≤ size_limit + unsigned_abs known.now.value }
+    ensures { result ≡ a +ℤ floor_div (line.now.centre *ℤ known.now.value) (2 ^ 56) }
 {
-    a as i128 + part_of(times(line.centre, known.value))
+    let part = floor_shift(product_with_line(line.centre, known.value));
+    a + part
 }
 
-// Returns the slope after one more step of Horner's rule: the slope times the centre, and the value times the width.
+// Returns the slope of a tangent after one more step of Horner's rule: the known slope times the centre of the line,
+// and the known value times its width.
 #[inline(always)]
-fn slope_of(line: &Line, known: &Tangent) -> i128
+fn next_slope(line: &Line, known: &Tangent) -> i64
     requires line { IsLine line.now }
     requires known { IsSmallTangent known.now }
-    ensures equals { result ≡ floor_div (line.now.centre *ℤ known.now.slope
+    ensures { result ≡ floor_div (line.now.centre *ℤ known.now.slope
         +ℤ line.now.width *ℤ known.now.value) (2 ^ 56) }
-    ensures small { unsigned_abs result
-        ≤ unsigned_abs known.now.slope + unsigned_abs known.now.value }
 {
-    part_of(times(line.centre, known.slope) + times(line.width, known.value))
+    floor_shift(
+        product_with_line(line.centre, known.slope) + product_with_line(line.width, known.value),
+    )
 }
 
-// Returns the product of a number of a line and one of a tangent.
+// Returns the exact product of a line's centre or width and a tangent's value or slope. Both are extended to 128 bits
+// only so that the compiler takes one multiplication of 64-bit numbers.
 #[inline(always)]
-fn times(x: i64, z: i128) -> i128
+fn product_with_line(x: i64, z: i64) -> i128
     requires x_small { unsigned_abs x ≤ 2 ^ 56 }
-    requires z_small { unsigned_abs z ≤ 2 ^ 68 }
+    requires z_small { unsigned_abs z < 2 ^ 62 }
     ensures equals { result ≡ x *ℤ z }
-    ensures small { unsigned_abs result ≤ 2 ^ 124 }
+    ensures small { unsigned_abs result < 2 ^ 118 }
 {
-    x as i128 * z
+    x as i128 * z as i128
 }
 
-// Returns `z / 2^56`, rounded down.
+// Returns `z / 2^56` rounded down, which takes the unit of a line out of a product.
 #[inline(always)]
-fn part_of(z: i128) -> i128
-    requires { unsigned_abs z ≤ 2 ^ 125 }
+fn floor_shift(z: i128) -> i64
+    requires { unsigned_abs z < 2 ^ 119 }
     ensures { result ≡ floor_div z (2 ^ 56) }
 {
-    z >> 56
+    (z >> 56) as i64
 }
 
-// Returns the sum of the magnitudes of a line's centre and width.
+// Returns the sum of the magnitudes of a line's centre and width, in units of 2^-56. It bounds its arguments.
 #[inline(always)]
-fn sizes_of(line: &Line) -> u128
+fn line_size(line: &Line) -> u64
     requires line { IsLine line.now }
     ensures equals { result ≡ unsigned_abs line.now.centre + unsigned_abs line.now.width }
     ensures small { result ≤ 2 ^ 57 }
 {
-    (line.centre.unsigned_abs() + line.width.unsigned_abs()) as u128
+    line.centre.unsigned_abs() + line.width.unsigned_abs()
 }
 
-// Returns twice the sum of the magnitudes of a tangent's value and slope.
+// Returns twice the sum of the magnitudes of a tangent's value and slope, which bounds what the roundings of the line
+// change of the product with the tangent, in units of 2^-56.
 #[inline(always)]
-fn changes_of(known: &Tangent) -> u128
+fn tangent_change(known: &Tangent) -> u64
     requires known { IsSmallTangent known.now }
-    ensures equals { result ≡ (unsigned_abs known.now.value + unsigned_abs known.now.slope) * 2 }
-    ensures small { result ≤ 2 ^ 70 }
+    ensures { result ≡ (unsigned_abs known.now.value + unsigned_abs known.now.slope) * 2 }
 {
     (known.value.unsigned_abs() + known.slope.unsigned_abs()) * 2
 }
 
-// Returns an error times the size of a line.
+// Returns the product of the size of a line, or of its width, and the error or the slope's magnitude of a tangent.
 #[inline(always)]
-fn spread(sizes: u128, error: u128) -> u128
-    requires sizes { sizes ≤ 2 ^ 57 }
+fn size_product(size: u64, error: u64) -> u128
+    requires size { size ≤ 2 ^ 57 }
     requires error { error ≤ 2 ^ 62 }
-    ensures equals { result ≡ sizes * error }
-    ensures small { result ≤ 2 ^ 119 }
+    ensures equals { result ≡ size * error }
+    ensures small { result ≤ size * 2 ^ 62 }
 {
-    sizes * error
+    size as u128 * error as u128
 }
 
-// Returns the error after one more step of Horner's rule. It takes in `beside`, the width times the slope, which the
-// tangent leaves out.
+// Returns the error of a tangent after one more step of Horner's rule. It takes in the width times the slope, which
+// the product of two lines has in its square, and the tangent leaves out.
 #[inline(always)]
-fn error_of(line: &Line, known: &Tangent, beside: i128) -> u128
+fn next_error(line: &Line, known: &Tangent) -> u64
     requires line { IsLine line.now }
     requires known { IsSmallTangent known.now }
-    requires beside { beside ≡ line.now.width *ℤ known.now.slope }
-    requires small { unsigned_abs beside ≤ 2 ^ 124 }
     ensures { result ≡ next_error line.now known.now }
 {
-    let spread = spread(sizes_of(line), known.error);
-    let whole = spread + changes_of(known) + 2 * known.error + beside.unsigned_abs();
-    (whole >> 56) + 3
+    let own = size_product(line_size(line), known.error);
+    let beside = size_product(line.width.unsigned_abs(), known.slope.unsigned_abs());
+    let whole = own + tangent_change(known) as u128 + 2 * known.error as u128 + beside;
+    (whole >> 56) as u64 + 3
 }

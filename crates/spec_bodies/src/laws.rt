@@ -8,36 +8,39 @@ ghost use Rattle.spec_bodies.specs.Coordinates.{less, earth, moon, displacement}
 ghost use Rattle.spec_bodies.specs.Meanings.{AlwaysAgree};
 ghost use Rattle.spec_bodies.specs.Views.{View, IsView, HasColumns, Fits, columns_of, exact_state, state_enclosure};
 
-/// The enclosure of a coordinate over times that fit holds its exact value: in the middle, at each time, and from
-/// each time to the next.
-pub fn enclosures_hold()
+/// States that over times that fit the enclosure of a coordinate of a position or velocity holds its exact value: in
+/// the middle, at each time, and in its change from each time to the next. Times fit if no granule of a column in use
+/// begins between them.
+pub fn enclosures_hold_exact_states()
     ensures { (v : View) (leaf : Leaf) (a b : ℤ) → IsLeaf leaf → Fits v a b
         → IsEnclosure (exact_state v leaf) a b (state_enclosure v leaf a b) }
 {}
 
-/// The exponents of a coordinate's enclosure are at most 256 in magnitude.
+/// States that over times that fit, which are times between which no granule of a column in use begins, the exponents
+/// of a coordinate's enclosure are at most 256 in magnitude.
 pub fn exponents_are_small()
     ensures { (v : View) (leaf : Leaf) (a b : ℤ) → IsLeaf leaf → Fits v a b
         → AllWithin 256 (state_enclosure v leaf a b) }
 {}
 
-/// Times that fit are in order and near J2000, and at each of them the exact value of a coordinate is a number.
+/// States that times that fit the columns in use are in order and near enough to J2000 to be the ends of a span, and
+/// that at each of them the exact value of a coordinate is a fraction with a denominator above 0.
 pub fn exact_values_are_numbers()
     ensures times { (v : View) (a b : ℤ) → Fits v a b → IsSpan a b }
     ensures numbers { (v : View) (leaf : Leaf) (a b : ℤ) → IsLeaf leaf → Fits v a b
         → AllFractions (exact_state v leaf) a b }
 {}
 
-/// The Earth seen from the Moon, or the Moon from the Earth, is the difference of their places, whatever the columns
-/// say.
-pub fn the_moon_is_as_far_from_the_earth_as_they_are_apart()
+/// States that the coordinates of the Moon seen from the Earth, and of the Earth seen from the Moon, agree with the
+/// difference of the places of both, whatever the columns hold, though they are read from the Moon's column alone.
+pub fn the_earth_and_the_moon_are_seen_at_their_difference()
     ensures moon { (axis : ℕ)
         → AlwaysAgree (displacement MoonOfPair EarthOfPair axis) (less (moon axis) (earth axis)) }
     ensures earth { (axis : ℕ)
         → AlwaysAgree (displacement EarthOfPair MoonOfPair axis) (less (earth axis) (moon axis)) }
 {}
 
-/// The columns that a view uses are in its ephemeris.
+/// States that an ephemeris has all columns that a checked view of it uses, so that they can be read.
 pub fn columns_in_use_are_present()
     ensures { (v : View) → IsView v → HasColumns v.ephemeris (columns_of v) }
 {}

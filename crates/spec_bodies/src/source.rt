@@ -28,7 +28,8 @@ pub enum Source {
 }
 
 impl Source {
-    /// Returns how a body is read. The planets, Pluto and the Earth-Moon barycentre stand in the first nine columns.
+    /// Returns from which columns the coordinates of a body are read. Planets, Pluto, the Earth-Moon barycentre and the
+    /// Sun have columns of their own; Earth and Moon share two, and the barycentre of the solar system is the origin.
     pub fn of(body: Body) -> Source
         ensures { result ≡ source_of body }
     {
@@ -49,8 +50,8 @@ impl Source {
         }
     }
 
-    /// Returns the numbers of the columns that have to be there, in order: the body's own, the two of the Earth and
-    /// the Moon, or none.
+    /// Returns the numbers of the columns that an ephemeris must have for a body with this source, counted from 1 and
+    /// in order: its own, or 3 and 10 for Earth and Moon, or none for the origin.
     pub fn needed_columns(&self) -> &[usize]
         ensures { result.now ≡ needed_columns self.now }
     {

@@ -23,14 +23,16 @@ ghost use Rattle.spec_bounds.specs.Terms.{bound_over, state_bound};
 ghost use Rattle.spec_bounds.specs.Limits.{IsBoundWithin};
 ghost use Rattle.spec_bounds.specs.Steady.{IsSteady, is_certified_at, sign_at, steady_verdict};
 
-/// The bound of a coordinate over times that fit includes its enclosure over every span within them.
+/// States that the bound of a coordinate over times from `c` to `d`, between which no granule of a column in use
+/// begins, includes its enclosure over every span from `a` to `b` within them.
 pub fn bounds_include_states()
     ensures { (v : View) (l : Leaf) (a b c d : ℤ) → IsLeaf l → Fits v c d
         → c ≤ℤ a → a <ℤ b → b ≤ℤ d
         → IncludesEnclosure (state_bound v l c d) (state_enclosure v l a b) }
 {}
 
-/// The verdict of a node within a steady span is told by the signs at its two ends, where both are known.
+/// States that the verdict of a valid node within a steady span, over which the function is monotone and each condition
+/// holds, is told by the signs of the function at the node's two ends, if both are known.
 pub fn steady_spans_tell_verdicts()
     ensures { (s : Search) (a b : ℤ) (n : Node) → IsSearch s → IsSteady s a b
         → IsValid (rules s) n → a ≤ℤ n.a → n.b ≤ℤ b
@@ -38,8 +40,9 @@ pub fn steady_spans_tell_verdicts()
         → verdict_of s n ≡ steady_verdict (criteria s) n (sign_at s n.a) (sign_at s n.b) }
 {}
 
-/// Signs at the ends of a wide node that differ in a wanted direction leave the limits to decide, where the node is wider
-/// than the width: without conditions, and with conditions that are each certified at one time of the node.
+/// States that a node wider than the width and than one tick, without a border in it, has the verdict of the limits,
+/// split or undecided, if the signs at its ends differ in a wanted direction: without conditions, and with conditions
+/// certified at one of its times.
 pub fn ends_that_differ()
     ensures unconditional { (s : Search) (n : Node) → IsSearch s → IsValid (rules s) n
         → s.event.conditions ≡ [] → crosses s n ≡ false → is_wide n ≡ true
@@ -52,7 +55,8 @@ pub fn ends_that_differ()
         → nat_le (width n) s.width ≡ false → verdict_of s n ≡ limit_verdict (criteria s) n }
 {}
 
-/// The intervals of a series over a span include those over every shorter span within it, of its values and of its steps.
+/// States that the intervals of a series over a span from `c` to `d` include those over every span from `a` to `b`
+/// within it: of its positions or velocities, and of their changes from each time to the next.
 pub fn bounds_include_series()
     ensures value { (quantity : Quantity) (s : Series) (a b c d : ℤ) → IsSeries s
         → IsSpanOf s c d → c ≤ℤ a → a ≤ℤ b → b ≤ℤ d
@@ -62,8 +66,8 @@ pub fn bounds_include_series()
         → Includes (step_interval quantity s c d) (step_interval quantity s a b) }
 {}
 
-/// The mid of a formula's enclosure over times that fit is the range of its enclosure at their middle; so over a node into
-/// which no border falls, the sign of the mid of the function of a search is its sign at the middle of the node.
+/// States that the mid of a formula's enclosure over `[a, b]` is the range of its enclosure at the middle alone. So at
+/// a node into which no border falls the sign of the mid of a search's function is the function's sign at the middle.
 pub fn middles_are_told()
     ensures of_formulas { (v : View) (x : Term) (a b : ℤ) → HasLeaves x → Fits v a b → a <ℤ b
         → (enclosure_over (state_enclosure v) x a b).mid
@@ -73,8 +77,9 @@ pub fn middles_are_told()
         ≡ sign_at s (middle n.a n.b) }
 {}
 
-/// In a quiet span the function has the sign of its bound at each time, and each node is clear; and so is a node of one unit
-/// into which a border falls, where the signs at its two ends show that no wanted turn lies between them.
+/// States that in a quiet span, over which the bound of the function has one sign, the function has this sign at each
+/// time and each valid node is clear. A node of one unit at a border is clear if the signs at its ends show no wanted
+/// turn.
 pub fn quiet_spans_are_clear()
     ensures times { (s : Search) (a b t : ℤ) → IsSearch s → IsQuiet s a b → a ≤ℤ t → t ≤ℤ b
         → sign_at s t ≡ sign_over s a b }
@@ -85,7 +90,9 @@ pub fn quiet_spans_are_clear()
         → has_no_turn s.event.dir (sign_at s n.a) (sign_at s n.b) ≡ true → verdict_of s n ≡ Clear }
 {}
 
-/// In the bounds of coordinates and of formulas no exponent passes the limit, so that every rule can be applied.
+/// States that over times between which no granule of a column in use begins no exponent in the bounds of coordinates
+/// passes `leaf_exponent`, and none in those of formulas `part_exponent`, so that every rule on intervals can be
+/// applied.
 pub fn bounds_are_within_limits()
     ensures states { (v : View) (l : Leaf) (a b : ℤ) → IsLeaf l → Fits v a b
         → IsBoundWithin leaf_exponent (state_bound v l a b) }

@@ -12,8 +12,8 @@ ghost use Rattle.spec_certificates.specs.Shapes.{AllFit};
 ghost use Rattle.spec_certificates.specs.Texts.{certificate};
 ghost use Rattle.spec_certificates.specs.declared.limits.TheConstants.{MAX_CERT_LEAVES};
 
-/// The leaves of a text that breaks no rule are those that its lines name, in order. They follow one another over the
-/// root, and each is a valid node with the mark of its verdict, whoever made the text.
+/// States what an accepted text shows, whoever made it: its leaves are those that its lines name from the third on,
+/// they follow one another over the root, and each is a valid node with the mark of its verdict.
 pub fn certificates_are_true()
     ensures named { (c : Cutting) (root : Node) (request text : List ℕ) (ls : List Leaf)
         → checked c root request text ≡ Ok ls → ls ≡ named_leaves (drop 2 (text_lines text)) }
@@ -25,18 +25,18 @@ pub fn certificates_are_true()
         → AreLeaves c.rules ls }
 {}
 
-/// A certificate that is written of the leaves of a valid root breaks no rule for its request line. The line has at
-/// most 4,096 bytes and a word, no line feed, and no carriage return at its end. The times have at most 15 digits and
-/// the depths at most 2, and there are fewer than 10^8 leaves.
-pub fn what_is_written_is_accepted()
+/// States that a certificate written of the leaves of a valid root is accepted with these leaves, if its request is one
+/// line of at most 4,096 bytes, its times have at most 15 digits, its depths at most 2, and it has fewer than 10^8
+/// leaves.
+pub fn written_certificates_are_accepted()
     ensures { (c : Cutting) (root : Node) (request : List ℕ) → IsCutting c → IsValid c.rules root
         → IsLine request → AllFit (leaves c.rules root) → length (leaves c.rules root) < 10 ^ 8
         → checked c root request (certificate request (leaves c.rules root))
         ≡ Ok (leaves c.rules root) }
 {}
 
-/// A leaf's line has at most 40 bytes without its end, so that a certificate of 4,194,304 leaves is a text that can be
-/// read: it has at most 268,435,456 bytes.
+/// States that a certificate of at most 4,194,304 leaves, with a request of at most 4,096 bytes, has at most
+/// 268,435,456 bytes, the most that is read. A leaf's line has at most 40 bytes without its end.
 pub fn certificates_are_short()
     ensures { (request : List ℕ) (ls : List Leaf) → length request ≤ MAX_LINE_BYTES → AllFit ls
         → length ls ≤ MAX_CERT_LEAVES → length (certificate request ls) ≤ MAX_TEXT_BYTES }

@@ -11,8 +11,9 @@ mod limits;
 
 pub use entry::{CertFault, Entry};
 pub use examples::{
-    ends_that_are_refused, first_lines_that_are_refused, lines_of_leaves_that_are_refused,
-    texts_that_are_certificates, texts_that_are_refused, words_of_lines,
+    ends_that_miscount_or_come_early_are_refused, first_lines_of_other_requests_are_refused,
+    lines_of_leaves_need_their_letters, texts_are_refused_at_their_first_bad_line,
+    texts_with_the_right_marks_are_certificates, words_are_read_as_leaves_or_ends,
 };
-pub use laws::{certificates_are_short, certificates_are_true, what_is_written_is_accepted};
+pub use laws::{certificates_are_short, certificates_are_true, written_certificates_are_accepted};
 pub use limits::{MAX_CERT_LEAVES, MAX_COUNT_DIGITS, MAX_DEPTH_DIGITS, MAX_TIME_DIGITS};

@@ -15,25 +15,27 @@ ghost use Rattle.spec_covers.specs.Points.{coordinate_point, point_of};
 ghost use Rattle.spec_covers.specs.Series.{argument_model, middle_argument, place, value_sum};
 ghost use Rattle.spec_covers.specs.Examples.{half, line, numbered, two_to_three};
 
-/// The model 3 + 2 x with the error 1 is 4 at x = 1/2. It covers the interval from 3 to 5 there, and none that ends
-/// at 6.
-pub fn covered_intervals()
+/// Works out what the model `3 + 2 x` with the error 1 covers at x = 1/2, where it is 4: the interval from 3 to 5,
+/// since both ends are near it, but not the one from 3 to 6.
+pub fn a_model_covers_intervals_within_its_error()
     ensures both_ends { Covers line (pos 1) (pos 2) (interval (pos 3) (pos 5) (pos 0)) }
     ensures past { Covers line (pos 1) (pos 2) (interval (pos 3) (pos 6) (pos 0)) → ⊥ }
 {}
 
-/// No number near the model 3 + 2 x with the error 1 is past 6. 5/2 is up to 3 of its units, but not up to 2. Scaled
-/// by 2/4 and rounded to units of 1, its numbers lose at most two of these and a 2^58th of 3.
-pub fn units_of_models()
+/// Works out sizes of the model `3 + 2 x` with the error 1: its numbers are at most 6, and 5/2 is at most 3 of its
+/// units, not 2. Scaled by 2/4 and rounded to units of 1 its numbers lose at most (2^61 + 12) / 2^60, two units and a
+/// 2^58th of 3.
+pub fn units_of_a_model_bound_its_numbers()
     ensures greatest { greatest line ≡ fraction (pos 6) 1 }
     ensures three { IsUpto 3 line (fraction (pos 5) 2) }
     ensures two { IsUpto 2 line (fraction (pos 5) 2) → ⊥ }
     ensures scaled { scaled_loss (pos 0) line 4 ≡ fraction (pos (2 ^ 61 + 12)) (2 ^ 60) }
 {}
 
-/// x + x x, where x is from 2 to 3, is from 6 to 12. Coordinates are made of those of columns, here from 1 to 2 and from 4
-/// to 5.
-pub fn intervals_at_one_time()
+/// Works out intervals at a single time: `x + x x` for x from 2 to 3 is from 6 to 12. Coordinates come from columns 4,
+/// which is from 4 to 5, and 1, from 1 to 2: their sum, their difference, and half of column 4, which is the factor
+/// here.
+pub fn intervals_at_one_time_follow_the_rules()
     ensures term { (x : Leaf) → point_of two_to_three (sum (leaf x) (product (leaf x) (leaf x)))
         ≡ interval (pos 6) (pos 12) (pos 0) }
     ensures plus { coordinate_point numbered half (plus (of_column 4 0) (of_column 1 0))
@@ -44,9 +46,10 @@ pub fn intervals_at_one_time()
         ≡ interval (pos (2 ^ 61)) (pos (5 * 2 ^ 59)) (minus 60) }
 {}
 
-/// T_0 + 2 T_1 + 3 T_2 over the times from 100 to 110. From 104 to 110 the middle has the argument 4/10, and time 105, at
-/// -4/6 between these, has 0: there the sum is -2, and that of the derivatives 2. In units of 2^-60, 3/8 and 4/8 are exact.
-pub fn places_and_sums()
+/// Works out the series T_0 + 2 T_1 + 3 T_2 over the times 100 to 110. Time 105 stands at -4/6 between 104 and 110,
+/// whose middle has the argument 4/10; at 105, argument 0, the sum is -2 and that of the derivatives 2. 3/8 and 4/8 are
+/// exact in units of 2^-60.
+pub fn sums_of_a_series_are_exact_at_argument_0()
     ensures place { place (pos 104) (pos 110) (pos 105) ≡ minus 4 }
     ensures middle { middle_argument parabola (pos 104) (pos 110) ≡ pos 4 }
     ensures argument { argument_model 60 (pos 3) (pos 4) 8

@@ -21,15 +21,17 @@ ghost use Rattle.spec_covers.specs.Points.{point_of, state_point};
 ghost use Rattle.spec_covers.specs.Combining.{AddsTo, SubtractsTo, MultipliesTo, SquaresTo, RepeatsTo, OpposesTo, ScalesTo, IsNotNegative, IsNotPositive, greatest, IsUpto, IsEnough, scaled_loss};
 ghost use Rattle.spec_covers.specs.Series.{argument_model, argument_unit, double_unit, middle_argument, of_coefficient, of_entry, place, sums, value_sum};
 
-/// The range of the enclosure of a formula over one time is the interval of the formula at that time, made by the rules of
-/// intervals of those of columns, whose series are those at any time between which and that time no granule begins.
+/// States that the range of a formula's enclosure at the single time `t` is the interval that the rules on intervals
+/// make of the columns at `t`. Their series may be taken at any time `c` that no border of a granule separates from
+/// `t`.
 pub fn points()
     ensures { (v : View) (x : Term) (c d t : ℤ) → Fits v c d → c ≤ℤ t → t ≤ℤ d → HasLeaves x
         → (enclosure_over (state_enclosure v) x t t).range ≡ point_of (state_point v c t) x }
 {}
 
-/// Over times that fit, the columns of a coordinate can be read, and their series are series of these times.
-pub fn columns_are_series()
+/// States that over times from `c` to `d` between which no granule begins the columns of each coordinate can be read,
+/// and that what is read at `c` is a valid series for all these times.
+pub fn columns_that_fit_are_series()
     ensures readable { (v : View) (c d : ℤ) (target axis : ℕ) → Fits v c d → axis < 3
         → AllColumns (IsReadable v) (coordinate_of v target axis) }
     ensures series { (v : View) (c d : ℤ) (number axis : ℕ) → Fits v c d → IsReadable v number axis
@@ -38,9 +40,9 @@ pub fn columns_are_series()
         → IsSpanOf (series_at v.ephemeris number axis c) c d }
 {}
 
-/// A constant covers an interval where it is within the error of both ends, and 0 covers 0 alone in whatever units. A
-/// number that an interval holds is near what covers the interval.
-pub fn constants_are_covered()
+/// States that the model of a constant covers an interval if its error reaches both ends, and that 0 covers 0 alone in
+/// any units. A number that an interval holds is near each model that covers the interval.
+pub fn constants_cover_intervals()
     ensures ends { (p q a lo hi s : ℤ) (e : ℕ) → IsArgument p q → Within (lo -ℤ a) (pos e)
         → Within (hi -ℤ a) (pos e) → Covers (constant a e s) p q (interval lo hi s) }
     ensures zero { (p q s t : ℤ) (e : ℕ) → IsArgument p q
@@ -49,8 +51,9 @@ pub fn constants_are_covered()
         → IsFraction r → Covers m p q x → Holds x r → IsNear m p q r }
 {}
 
-/// A product with 2 / length scales, and a product with n repeats.
-pub fn products_scale()
+/// States that a model times `2 / length` is the model scaled by the length, and that a model times `n` is the sum of
+/// `n` summands of it.
+pub fn products_scale_and_repeat()
     ensures scaled { (m n k : Model) (length : ℕ) → 0 < length → MultipliesTo m n k
         → ((p q : ℤ) → IsArgument p q → IsNear n p q (fraction (pos 2) length))
         → ScalesTo length m k }
@@ -58,8 +61,9 @@ pub fn products_scale()
         → RepeatsTo n m k }
 {}
 
-/// The interval that a rule makes of two covered intervals is covered by the model of the operation, widened for what
-/// is rounded.
+/// States that if models cover two intervals at each argument, the model made of them by addition, subtraction,
+/// multiplication or signed squaring covers the interval that the rule makes, once widened by `d` units, enough for
+/// what the rule rounds.
 pub fn operations_are_covered()
     ensures sum { (m n k : Model) (d : ℕ) → AddsTo m n k
         → IsEnough d k (fraction_add (greatest m) (greatest n))
@@ -79,8 +83,8 @@ pub fn operations_are_covered()
         → Covers (widened d k) p q (signed_square x) }
 {}
 
-/// Where all numbers near a model have one sign, their signed squares are their squares, or these with the other sign. They
-/// do where the first coefficient is at least as great as the others together and the error.
+/// States that if all numbers near a model have one sign, their signed squares are their squares, or these negated.
+/// They have one sign if the first coefficient is, in magnitude, at least the sum of the others and the error.
 pub fn signed_squares_are_products()
     ensures not_negative { (m k : Model) → IsNotNegative m → MultipliesTo m m k → SquaresTo m k }
     ensures not_positive { (m w k : Model) → IsNotPositive m → MultipliesTo m m w → OpposesTo w k
@@ -91,7 +95,8 @@ pub fn signed_squares_are_products()
         → IsNotPositive (model (x ∷ xs) e s) }
 {}
 
-/// The number of units that is enough for what is rounded, in whole numbers.
+/// States which number `d` of units of a model covers a given loss, in whole numbers: a loss of `z` units of another
+/// exponent, and what a sum, a product, normalizing or scaling rounds, which is a 2^58th of the models' bulks.
 pub fn units_that_are_enough()
     ensures units { (k : Model) (z d a b : ℕ) (t s : ℤ) → s ≡ t +ℤ pos a → k.exponent ≡ t +ℤ pos b
         → z * 2 ^ a ≤ d * 2 ^ b → IsUpto d k (in_units (pos z) s) }
@@ -109,8 +114,8 @@ pub fn units_that_are_enough()
         → IsUpto (2 + d) k (scaled_loss s m length) }
 {}
 
-/// The argument of a series at a time between two is covered by a line in the place of that time between them, with the
-/// arguments in units of 2^-60, and twice these in units of 2^-59; and it lies between -1 and 1.
+/// States that the argument of a series at a time from `c` to `d` is covered by a line in the place of that time
+/// between them, in units of 2^-60 or, doubled, of 2^-59. Place and argument lie between -1 and 1.
 pub fn arguments_are_covered()
     ensures place { (c d t : ℤ) → c <ℤ d → c ≤ℤ t → t ≤ℤ d → IsArgument (place c d t) (d -ℤ c) }
     ensures covered { (s : Series) (c d t : ℤ) (unit : ℕ) → IsSeries s → c <ℤ d → c ≤ℤ t → t ≤ℤ d
@@ -120,7 +125,8 @@ pub fn arguments_are_covered()
         → IsArguments (arguments s t t) }
 {}
 
-/// The row of T: 1, the argument, and 2 x T_(k+1) - T_k, which is rounded outward by at most one unit of 2^-60.
+/// States what covers the row of T at arguments that a model covers: 1, the argument, and `2 x T_(k+1) - T_k` of the
+/// two entries before, widened by one unit of 2^-60 for what is rounded.
 pub fn t_rows_are_covered()
     ensures first { (p q : ℤ) (x : Ival62) → IsArgument p q
         → Covers (constant (pos (2 ^ 60)) 0 (neg_ℤ (pos t_unit))) p q
@@ -136,7 +142,8 @@ pub fn t_rows_are_covered()
         → Covers (widened d k) p q (of_entry t_unit (t_row x (suc (suc j)))) }
 {}
 
-/// The row of U: 1, twice the argument, and 2 x U_(k+1) - U_k, which is rounded outward by at most one unit of 2^-50.
+/// States what covers the row of U at arguments that a model covers: 1, twice the argument, and `2 x U_(k+1) - U_k` of
+/// the two entries before, widened by one unit of 2^-50 for what is rounded.
 pub fn u_rows_are_covered()
     ensures first { (p q : ℤ) (x : Ival62) → IsArgument p q
         → Covers (constant (pos (2 ^ 50)) 0 (neg_ℤ (pos u_unit))) p q
@@ -153,7 +160,8 @@ pub fn u_rows_are_covered()
         → Covers (widened d k) p q (of_entry u_unit (u_row x (suc (suc j)))) }
 {}
 
-/// The sum of coefficients times entries is covered exactly, by one coefficient more at a time.
+/// States that models cover a multiple of an entry of a row, and the sum of coefficients times entries, one coefficient
+/// more at a time. Nothing is rounded in these.
 pub fn sums_are_covered()
     ensures multiple { (m k : Model) (j : ℕ) → RepeatsTo (suc j) m k
         → (p q : ℤ) (unit : ℕ) (row : ℕ → Ival62) → IsArgument p q
@@ -165,9 +173,9 @@ pub fn sums_are_covered()
         → Covers rest p q (sums unit row (suc j) cs) → Covers k p q (sums unit row j (c ∷ cs)) }
 {}
 
-/// A normalized interval is covered by the same model, and a scaled one by the scaled model, each widened for what is
-/// rounded.
-pub fn narrowed_are_covered()
+/// States that a normalized interval is covered by the model that covers the interval, and one scaled by `2 / length`
+/// by the scaled model, each widened by as many units as the rounding may lose.
+pub fn normalized_and_scaled_intervals_are_covered()
     ensures narrowed { (m : Model) (d : ℕ) → IsEnough d m (greatest m)
         → (p q lo hi s : ℤ) → IsArgument p q → Covers m p q (interval lo hi s)
         → Covers (widened d m) p q (narrow lo hi s) }
@@ -177,7 +185,8 @@ pub fn narrowed_are_covered()
         → Covers (widened d k) p q (scale lo hi s length) }
 {}
 
-/// The interval of a series at one time is covered where its sum is.
+/// States that the interval of a position at one time is covered by the model that covers the sum of coefficients times
+/// entries, widened for normalizing, and that of a velocity by that model scaled by the duration and widened.
 pub fn series_are_covered()
     ensures position { (m : Model) (d : ℕ) → IsEnough d m (greatest m)
         → (p q : ℤ) (s : Series) (t : ℤ) → IsArgument p q → Covers m p q (value_sum Position s t)

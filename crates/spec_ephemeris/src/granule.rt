@@ -15,7 +15,7 @@ pub struct Granule<'a> {
     pub comps: usize,
     /// The coefficients in km, component after component, in each those of T_0, T_1 and so on.
     pub coefs: &'a [Decimal],
-    /// Each of the coefficients rounded down and up, in the same order, where the column is one of a body, and else none.
+    /// Each of the coefficients rounded down and up, in the same order, if the column is that of a body; else none.
     pub rounded: &'a [Rounded],
 }
 

@@ -32,14 +32,15 @@ impl Model for Columns {
 }
 
 impl Columns {
-    /// Makes a list of the columns of a vector, in its order. It does not allocate.
+    /// Makes a list of the columns of a vector, in its order, without allocating. Contracts see the list of the
+    /// columns.
     pub fn new(items: Vec<Column>) -> Self
         ensures { result ≡ items.items }
     {
         Columns { items }
     }
 
-    /// Returns the columns in their order.
+    /// Returns the columns of the list in their order: column 1 of a header stands at index 0.
     pub fn as_slice(&self) -> &[Column]
         ensures { result.now ≡ self.now }
     {
@@ -52,7 +53,7 @@ impl Columns {
 pub struct Header {
     /// The number of numbers in a block.
     pub ncoeff: u32,
-    /// The length of a block: in seconds of TDB as it is read, in ticks where an ephemeris counts ticks.
+    /// The length of a block: in seconds of TDB as it is read, in ticks if its ephemeris counts ticks.
     pub block_seconds: i64,
     /// The mass of the Earth over that of the Moon.
     pub emrat: Decimal,

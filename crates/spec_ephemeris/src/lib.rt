@@ -15,16 +15,19 @@ mod limits;
 
 pub use body::Body;
 pub use examples::{
-    arguments, borders_of_de405, borders_of_two_blocks, columns_that_are_present, headers,
-    lengths_of_blocks, places_of_columns, positions_on_a_line, positions_on_a_parabola,
-    preferred_times, ratios_of_masses, sizes_of_blocks, sizes_of_coefficients, times_in_ticks,
-    velocities,
+    arguments_run_from_end_to_end_of_a_block, blocks_are_up_to_64_days_long,
+    blocks_have_3_to_4096_numbers, borders_of_de405_are_8_or_16_days_apart,
+    coefficients_are_below_2_36_km, columns_end_where_the_next_begin,
+    columns_without_coefficients_are_absent, headers_meet_or_break_the_rules,
+    mass_ratios_are_from_1_to_1000, milliseconds_multiply_times,
+    nearer_and_earlier_times_are_preferred, positions_on_a_line, positions_on_a_parabola,
+    two_blocks_have_one_border, velocities_of_a_line_and_a_parabola,
 };
 pub use granule::{Granule, Rounded};
 pub use header::{Column, Columns, Header};
 pub use laws::{
-    a_time_has_one_granule, granule_of_a_time, nearest_border_of_columns, one_border_is_nearest,
-    ticks_are_checked, ticks_keep_positions,
+    a_time_has_one_granule, ephemerides_in_ticks_are_checked, granule_at_computes_the_granule,
+    nearest_border_computes_the_nearest_border, one_border_is_nearest, ticks_keep_positions,
 };
 pub use limits::{
     BODY_COLUMNS, DAY, FIRST_PLACE, FIRST_TICK, FIRST_TIME, GREATEST_MASS_RATIO, LAST_TICK,

@@ -33,7 +33,7 @@ pub const SHORTEST_BLOCK: i64 = 1;
 /// The longest block, in seconds: 64 days.
 pub const LONGEST_BLOCK: i64 = 5_529_600;
 
-/// The most ticks of a second, where times are counted in ticks: milliseconds.
+/// The most ticks of a second, if times are counted in ticks: 1,000, which are milliseconds.
 pub const MAX_TICK: u32 = 1_000;
 
 /// The length of the longest block, in the shortest ticks.

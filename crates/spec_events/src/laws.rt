@@ -18,17 +18,17 @@ ghost use Rattle.spec_trees.specs.Cuts.{is_wide};
 ghost use Rattle.spec_trees.specs.Tree.{Covers, width};
 ghost use Rattle.spec_trees.specs.Windows.{window_of, windows};
 
-/// Where any direction is wanted and there is no guard, the events are the turns.
-pub fn turns_are_wanted()
+/// States that if turns in any direction are wanted and there is no guard, the events are exactly the turns of the
+/// condition.
+pub fn all_turns_are_events_without_guards()
     ensures any { (p : ℤ → Bool) (turn : Turn) (t : ℤ) → IsTurn (Passes p) turn t
         ↔ IsWantedTurn (Passes p) Any Always turn t }
 {}
 
-/// Where leaves cover a span and each has the right mark, their windows are the windows of the span's events: they lie
-/// within the span, each ends before every later one begins, they hold every event, each certain one exactly one, and
-/// each time of an undecided one lies in an undecided leaf that lies in the window. It holds for any events, and with that
-/// for the turns of a condition, and for the events of a function.
-pub fn windows_of_a_covered_span()
+/// States what windows promise if their leaves cover a span and have the right marks: they lie in the span, in order
+/// and apart, hold every event, each certain one exactly one, and undecided times lie in undecided leaves. Stated for
+/// any events, for turns, and for functions.
+pub fn windows_of_a_covered_span_hold_its_events()
     ensures are_windows { (e : Turn → ℤ → Bool) (u : Node → Bool) (a b : ℤ) (ls : List Leaf)
         → Covers a ls b → AreRightlyMarked (Happens e) (Passes u) ls
         → AreWindows (Happens e) (Passes u) a b (windows ls) }
@@ -41,8 +41,8 @@ pub fn windows_of_a_covered_span()
         → AreWindows (EventsOf exact dir guards) (Passes u) a b (windows ls) }
 {}
 
-/// A clear node holds no event, wherever what was found at the node is true: of a condition that a test decides, and of a
-/// function by its enclosures.
+/// States that a node with the verdict clear holds no event if what was found at it is true: for a condition and guard
+/// given by tests, and for a function and guards given by enclosures over the node.
 pub fn a_clear_node_holds_no_event()
     ensures tests { (p g : ℤ → Bool) (c : Criteria) (n : Node) (f : Findings)
         → AreSound (Passes p) (Passes g) n f → verdict c n f ≡ Clear
@@ -52,8 +52,8 @@ pub fn a_clear_node_holds_no_event()
         → HasNoEvent (EventsOf exact c.dir (guards_of e)) n.a n.b }
 {}
 
-/// A node whose verdict is one event holds exactly one, a turn in its direction, wherever what was found at the node
-/// is true.
+/// States that a node with the verdict of one event holds exactly one, a turn in the verdict's direction, if what was
+/// found at it is true: for a condition and guard given by tests, and for a function given by enclosures.
 pub fn a_node_with_one_holds_one()
     ensures tests { (p g : ℤ → Bool) (c : Criteria) (n : Node) (f : Findings) (turn : Turn)
         → AreSound (Passes p) (Passes g) n f → verdict c n f ≡ One turn
@@ -63,27 +63,30 @@ pub fn a_node_with_one_holds_one()
         → HoldsOne (EventsOf exact c.dir (guards_of e)) turn (window_of n (Certain turn)) }
 {}
 
-/// The signs of enclosures, and the direction of a step, are true findings at a node.
-pub fn enclosures_give_findings()
+/// States that the signs of enclosures of a function and of its guards over a node, and the sign of the function's
+/// steps, are true findings there.
+pub fn enclosures_give_true_findings()
     ensures sound { (exact : ℤ → Fraction) (n : Node) (e : Evidence) → IsEvidence exact n e
         → AreSound (IsNotNegative exact) (GuardsHold (guards_of e)) n (findings_of e) }
 {}
 
-/// A node into which a border falls is split where it is wider than one unit of time, whatever else is found there.
+/// States that a node into which a border of granules falls is split if it is wider than one unit of time, whatever
+/// else was found at it.
 pub fn wide_nodes_at_a_border_are_split()
     ensures split { (c : Criteria) (n : Node) (f : Findings) → f.crosses ≡ true
         → is_wide n ≡ true → verdict c n f ≡ Split }
 {}
 
-/// An undecided node is no wider than the width that is asked for, or as deep as the depth.
+/// States that a node with the verdict undecided is no wider than the width that is asked for, or at least as deep as
+/// the greatest depth. So nothing is left undecided that may be split.
 pub fn undecided_nodes_are_at_a_limit()
     ensures limit { (c : Criteria) (n : Node) (f : Findings) → n.a <ℤ n.b → 0 < c.width
         → verdict c n f ≡ Undecided → (width n ≤ c.width) ⊎ (c.depth ≤ n.depth) }
 {}
 
-/// The verdict that is reached in stages, as a node is looked at, is the verdict: what is not looked at does not
-/// change it.
-pub fn verdicts_in_stages()
+/// States that `staged_verdict`, which looks at a node's findings one after another and stops as soon as they decide,
+/// is the same as `verdict`, for nodes in order and a width above 0.
+pub fn staged_verdicts_are_verdicts()
     ensures same { (c : Criteria) (n : Node) (f : Findings) → n.a <ℤ n.b → 0 < c.width
         → verdict c n f ≡ staged_verdict c n f }
 {}

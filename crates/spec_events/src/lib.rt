@@ -10,12 +10,15 @@ mod laws;
 mod verdict_examples;
 
 pub use dir::Dir;
-pub use examples::{guarded_turns, turns};
+pub use examples::{
+    conditions_turn_when_their_truth_changes, turns_are_events_if_wanted_and_guarded,
+};
 pub use laws::{
-    a_clear_node_holds_no_event, a_node_with_one_holds_one, enclosures_give_findings,
-    turns_are_wanted, undecided_nodes_are_at_a_limit, verdicts_in_stages,
-    wide_nodes_at_a_border_are_split, windows_of_a_covered_span,
+    a_clear_node_holds_no_event, a_node_with_one_holds_one, all_turns_are_events_without_guards,
+    enclosures_give_true_findings, staged_verdicts_are_verdicts, undecided_nodes_are_at_a_limit,
+    wide_nodes_at_a_border_are_split, windows_of_a_covered_span_hold_its_events,
 };
 pub use verdict_examples::{
-    events_of_a_line, verdicts_at_a_border, verdicts_by_criteria_and_guards, verdicts_of_a_line,
+    a_line_has_one_event, limits_directions_and_guards_decide_verdicts,
+    nodes_at_a_border_are_split_down_to_one_tick, verdicts_on_a_line_find_its_rise,
 };

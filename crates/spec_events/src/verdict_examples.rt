@@ -10,16 +10,20 @@ ghost use Rattle.spec_events.specs.Functions.{EventsOf};
 ghost use Rattle.spec_events.specs.Verdict.{verdict};
 ghost use Rattle.spec_events.specs.VerdictExamples.{border_findings, constant_guard, criteria, guarded_verdict, line, line_verdict, node_at, nothing_known, passing};
 
-/// The line rises at the time at which it passes 0, where its guard holds then.
-pub fn events_of_a_line()
+/// Works out the event of the line `t - 1339200` km: it rises at 1339200. It is no event if only falls are wanted, and
+/// a guard decides whether it counts: one that has to be at least 0 and is 2 * 10^12 holds; the same guard below 0 does
+/// not.
+pub fn a_line_has_one_event()
     ensures rise { EventsOf line D.Any [] Rise passing }
     ensures unwanted { IsEvent (EventsOf line D.Fall []) passing → ⊥ }
     ensures guarded { EventsOf line D.Any (constant_guard true ∷ []) Rise passing }
     ensures refuted { IsEvent (EventsOf line D.Any (constant_guard false ∷ [])) passing → ⊥ }
 {}
 
-/// The line from 1339000 to 1339400, where a width of 60 is asked for: the nodes that are split, and the leaves.
-pub fn verdicts_of_a_line()
+/// Works out verdicts of nodes from 1339000 to 1339400 for the line `t - 1339200` km and a width of 60. Nodes on one
+/// side of 0 are clear; the node from 1339150 to 1339200, which is narrow enough, has one rise; wider nodes with the
+/// rise are split.
+pub fn verdicts_on_a_line_find_its_rise()
     ensures root { line_verdict (criteria D.Any 60 40)
         (node_at (pos 1339000) (pos 1339400) 0) ≡ Split }
     ensures left { line_verdict (criteria D.Any 60 40)
@@ -36,9 +40,9 @@ pub fn verdicts_of_a_line()
         (node_at (pos 1339200) (pos 1339400) 1) ≡ Clear }
 {}
 
-/// At the depth that is asked for a wide node is left undecided, and so is one of a single tick where no sign is known. A
-/// line that rises has no fall, and nothing happens where a guard is false.
-pub fn verdicts_by_criteria_and_guards()
+/// Works out verdicts at limits: at the greatest depth, here 0, a wide node is undecided, and so is one of a single
+/// tick without a known sign. A rising line has no fall, and a guard that is false makes the node clear.
+pub fn limits_directions_and_guards_decide_verdicts()
     ensures deep { line_verdict (criteria D.Any 1 0)
         (node_at (pos 1339000) (pos 1339400) 0) ≡ Undecided }
     ensures falls { line_verdict (criteria D.Fall 1 40)
@@ -49,9 +53,9 @@ pub fn verdicts_by_criteria_and_guards()
         ≡ Undecided }
 {}
 
-/// A node into which a border falls is split at any depth where it is wider than one tick; one of a single tick is
-/// judged by the signs at its ends.
-pub fn verdicts_at_a_border()
+/// Works out verdicts of nodes into which a border of granules falls: nodes of 37 ticks and of more are split at any
+/// depth and width, and a node of one tick, whose signs go from `Yes` to `No`, has one fall.
+pub fn nodes_at_a_border_are_split_down_to_one_tick()
     ensures wide { verdict (criteria D.Rise 2 40) (node_at (minus 17075288) (minus 17075251) 17)
         (border_findings No Yes) ≡ Split }
     ensures deep { verdict (criteria D.Any 60 12) (node_at (minus 734400) (pos 1986097) 9)

@@ -9,9 +9,9 @@ ghost use Rattle.spec_expressions.specs.Term.{Leaf, length, cosine, exact_of, en
 ghost use Rattle.spec_expressions.specs.Vectors.{dot};
 ghost use Rattle.spec_expressions.specs.ExpressionExamples.{clock, clock_over, half_of};
 
-/// A constant is its decimal at each time, and its enclosure has no step. Over several times the range is normalized,
-/// so that 0 has the exponent 0 there.
-pub fn constants()
+/// Works out the term of the cosine 1/2: its exact value at time 7, and its enclosure from 0 to 2, whose middle and
+/// range are 2^59 units of 2^-60 and whose step is 0 alone. It has one node; a constant length has degree 1.
+pub fn a_constant_is_its_decimal_at_each_time()
     ensures exact { exact_of clock (cosine half_of) (pos 7) ≡ fraction (pos 5) 10 }
     ensures enclosed { enclosure_of (clock_over (pos 0) (pos 2)) (pos 0) (pos 2) (cosine half_of)
         ≡ triple (interval (pos (2 ^ 59)) (pos (2 ^ 59)) cosine_exponent)
@@ -20,15 +20,18 @@ pub fn constants()
     ensures degree { degree (length half_of) ≡ 1 }
 {}
 
-/// A dot product has three products and two sums. At 7, where each coordinate is 7, it is 49 three times.
-pub fn dot_products()
+/// Works out the dot product of the position of target 0 and the velocity of target 1, if each coordinate is the time
+/// itself: at time 7 it is 3 * 49 = 147. Its term has 11 nodes, which are 6 leaves, 3 products and 2 sums, and degree
+/// 2.
+pub fn the_dot_product_of_the_time_is_147_at_7()
     ensures exact { exact_of clock (dot (Position 0) (Velocity 1)) (pos 7) ≡ fraction (pos 147) 1 }
     ensures size { nodes (dot (Position 0) (Velocity 1)) ≡ 11 }
     ensures degree { degree (dot (Position 0) (Velocity 1)) ≡ 2 }
 {}
 
-/// Coordinates that are the time itself are enclosed by whole numbers, with a step of 1.
-pub fn clocks()
+/// States that coordinates that are the time itself (`clock`) are fractions at each time from `a` to `b`, are enclosed
+/// by `clock_over`, and have enclosures with exponents of 0, which is within any limit `n`.
+pub fn coordinates_that_are_the_time_are_enclosed()
     ensures numbers { (leaf : Leaf) (a b : ℤ) → AllFractions (clock leaf) a b }
     ensures holds { (leaf : Leaf) (a b : ℤ) → IsEnclosure (clock leaf) a b (clock_over a b leaf) }
     ensures within { (n : ℕ) (leaf : Leaf) (a b : ℤ) → IsSpan a b

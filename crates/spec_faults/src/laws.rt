@@ -3,12 +3,14 @@ ghost use Rattle.std.specs.Prelude.{◌≡◌, ◌∷◌, [], IsTrue, None, Some
 ghost use Rattle.spec_faults.specs.Faults.{fault_kind, kinds, rise_from};
 ghost use Rattle.spec_faults.specs.Rows.{row};
 
-/// The rows stand in the order of their numbers, so that no number has two.
-pub fn numbers_rise()
+/// States that the rows of the table of faults stand in rising order of their numbers, starting above 0, so that no two
+/// faults share a number.
+pub fn fault_numbers_rise()
     ensures { IsTrue (rise_from 0 kinds) }
 {}
 
-/// A fault is looked up by its number; a number without a row has no kind.
+/// States that a fault's row is found by its number: shown for the numbers 4, 11, 39, 63 and 72, one of each range. The
+/// number 23, which has no row, gives `None`.
 #[tactic(auto, unfolding(crate::specs::Faults::fault_kind))]
 pub fn faults_are_looked_up()
     ensures whole_file { fault_kind 4
@@ -24,8 +26,10 @@ pub fn faults_are_looked_up()
     ensures no_row { fault_kind 23 ≡ None }
 {}
 
-/// The whole table, by what is refused: whole files, a header, a block, an event, words, a certificate.
-pub fn rows_of_the_table()
+/// States all 38 rows of the table of faults, each with its number, its name and whether a detail is printed: for whole
+/// files (4 to 6), a header (10 to 22), a block (30 to 39), an event (50 to 52), words (60 to 63) and a certificate (70
+/// to 74).
+pub fn the_table_has_38_rows()
     ensures files { take 3 kinds ≡
         row 4 (codes "LineTooLong") false ∷
         row 5 (codes "TooManyFiles") false ∷

@@ -6,7 +6,7 @@ mod laws;
 mod numbers;
 mod table;
 
-pub use laws::{faults_are_looked_up, numbers_rise, rows_of_the_table};
+pub use laws::{fault_numbers_rise, faults_are_looked_up, the_table_has_38_rows};
 pub use numbers::{
     BAD_VALUE, BLOCK_GAP, BLOCK_SPAN, BODY_ABSENT, CERT_END, CERT_LINE, CERT_MARK, CERT_PLACE,
     CERT_REQUEST, COEFFICIENT_COUNT, COLUMN_COUNT, COLUMN_PLACE, COUNT_MISMATCH, EMRAT_MISSING,

@@ -112,6 +112,6 @@ pub const CERT_PLACE: u8 = 72;
 /// The mark of a leaf is not that of its verdict.
 pub const CERT_MARK: u8 = 73;
 
-/// A leaf where no node waits; an end where one waits, or with another number of leaves; a line after the end; or there
-/// is no end: then at the number of lines plus 1.
+/// A leaf stands after the last node is done; an end stands before that, or names another number of leaves; a line
+/// stands after the end; or the end is missing, which is reported at the number of lines plus 1.
 pub const CERT_END: u8 = 74;

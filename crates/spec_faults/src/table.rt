@@ -59,7 +59,7 @@ pub struct FaultKind {
     pub has_detail: bool,
 }
 
-/// The kind of fault with this number, where the table has a row for it.
+/// Returns the row of the table of faults that has this number, or `None` if no fault is reported under it.
 pub fn fault_kind(number: u8) -> Option<FaultKind>
     ensures found { IfSome result (λ kind. fault_kind number ≡ Some (kind_of kind)) }
     ensures not_found { IfNone result (fault_kind number ≡ None) }
@@ -67,7 +67,8 @@ pub fn fault_kind(number: u8) -> Option<FaultKind>
     kind_among(&FAULTS, number)
 }
 
-// The kind of fault of the first of these rows with this number.
+// Returns the first of the given rows that has this number, or `None` if none has it. The rows are a parameter because
+// the search calls itself on the rest of the table.
 fn kind_among(rows: &[(u8, &'static str, bool)], number: u8) -> Option<FaultKind>
     ensures found { IfSome result (λ kind.
         kind_among (kinds_of rows.now) number ≡ Some (kind_of kind)) }

@@ -9,9 +9,10 @@ ghost use Rattle.spec_files.specs.BlockRules.{follows, is_place_of_body, is_too_
 ghost use Rattle.spec_files.specs.Blocks.{blocks};
 ghost use Rattle.spec_files.specs.BlockExamples.{angles_header, day_of_angles, days, first_day, lines_from, on_one_line, one_day, open_day, read, read_both, refused, second_day, two_days};
 
-/// Julian dates as seconds of TDB since J2000, which is date 2451545.
+/// Works out Julian dates as seconds of TDB since J2000, which is date 2451545: 2451544.5 is -43,200, and 0 and
+/// 5,000,000 are the first and the last time. A date outside these, or of no whole second, is refused as BLOCK_SPAN.
 #[tactic(none)]
-pub fn times_of_julian_dates()
+pub fn julian_dates_are_times()
     ensures noon { time_of (whole (pos 2451545)) ≡ Ok (pos 0) }
     ensures midnight { time_of (decimal (pos 245154450) (negsuc 1)) ≡ Ok (negsuc 43199) }
     ensures first { time_of (whole (pos 0)) ≡ Ok FIRST_TIME }
@@ -21,9 +22,10 @@ pub fn times_of_julian_dates()
     ensures part { time_of (decimal (pos 2451545000001) (negsuc 5)) ≡ Err (broken BLOCK_SPAN 0) }
 {}
 
-/// The places 3 to 26 of this header belong to bodies. Sizes are compared with 2^36 km.
+/// Works out which numbers of a block are compared with 2^36 km: those of bodies, which in a header of four columns
+/// stand at the places 3 to 26. 2^36 = 68719476736 and its negative are too large; 68719476735.9 is not.
 #[tactic(none)]
-pub fn places_of_bodies()
+pub fn numbers_of_bodies_are_below_2_36_km()
     ensures date { is_place_of_body four_columns.columns 2 ≡ false }
     ensures mercury { is_place_of_body four_columns.columns 3 ≡ true }
     ensures sun { is_place_of_body four_columns.columns 26 ≡ true }
@@ -33,7 +35,8 @@ pub fn places_of_bodies()
     ensures below_zero { is_too_large (whole (negsuc 68719476735)) ≡ true }
 {}
 
-/// Nutations and librations are angles, and no bodies: their numbers may have any size.
+/// Works out that the numbers of nutations and librations, which are angles and no bodies, may have any size: a block
+/// with 10^99 at their five places is accepted.
 #[tactic(none)]
 pub fn angles_may_be_large()
     ensures mercury { is_place_of_body angles_header.columns 5 ≡ true }
@@ -44,7 +47,8 @@ pub fn angles_may_be_large()
         ≡ Ok (day_of_angles (decimal (pos 1) (pos 99))) }
 {}
 
-/// Blocks follow one another, and a block that ends no later than the one before it is skipped.
+/// Works out the ephemerides of lines with blocks of one day: of one block, of two that follow one another, and of the
+/// same two with the first block repeated. A block that ends no later than the one before it is skipped.
 #[tactic(none)]
 pub fn blocks_follow_one_another()
     ensures one { read first_day ≡ one_day }
@@ -52,7 +56,8 @@ pub fn blocks_follow_one_another()
     ensures repeated { read (first_day ++ first_day ++ second_day ++ first_day) ≡ two_days }
 {}
 
-/// A block may begin in one file and end in the next.
+/// Works out that a block may start in one file and end on the first line of the next. A bad number on that line, `x`,
+/// is a fault of file 1 at its line 1.
 #[tactic(none)]
 pub fn blocks_go_on_in_the_next_file()
     ensures whole { read_both open_day (codes "-2 3 0.0" ∷ second_day) ≡ two_days }
@@ -60,7 +65,8 @@ pub fn blocks_go_on_in_the_next_file()
         ≡ Err (breaks 1 (line_fault 1 (broken NUMBER 1))) }
 {}
 
-/// Record lines that are refused, which stand before the numbers. The record number may be any.
+/// Works out which first lines of blocks (record lines) are refused: all but two whole numbers, of which the first may
+/// be any, even 0, and the second is the header's count of 5. `1 6` has another count.
 #[tactic(none)]
 pub fn record_lines_are_refused()
     ensures one_word { read (codes "1" ∷ []) ≡ refused 1 RECORD_LINE 0 }
@@ -72,9 +78,11 @@ pub fn record_lines_are_refused()
     ensures after_a_block { read (first_day ++ codes "GROUP 1010" ∷ []) ≡ refused 4 RECORD_LINE 0 }
 {}
 
-/// Dates of a block that are refused.
+/// Works out which dates of a block are refused, and at which line: dates outside the limits, a length other than one
+/// day, and a start after the end of the block before, or before it. A block that ends no later than the one before it
+/// is skipped: of it only a bad number is refused. 16,384 blocks are accepted, and one more only if it is skipped.
 #[tactic(none)]
-pub fn spans_are_refused()
+pub fn dates_of_blocks_are_refused()
     ensures first_date { read (on_one_line (codes "-2451545 x")) ≡ refused 2 BLOCK_SPAN 0 }
     ensures second_date { read (on_one_line (codes "2451545") ++ codes "9999999 x" ∷ [])
         ≡ refused 3 BLOCK_SPAN 0 }
@@ -91,7 +99,9 @@ pub fn spans_are_refused()
     ensures one_more_skipped { follows (days MAX_BLOCKS []) (pos 0) (pos 86400) ≡ Ok tt }
 {}
 
-/// Numbers after the dates that are refused.
+/// Works out which numbers after a block's dates are refused: words that are no decimals (NUMBER, with the number of
+/// their fault), and -10^11 or 10^11, too large for a body. The first bad word counts, and blocks that are skipped are
+/// looked at too.
 #[tactic(none)]
 pub fn numbers_are_refused()
     ensures no_number { read (open_day ++ codes "1.5.5" ∷ []) ≡ refused 3 NUMBER 1 }
@@ -104,7 +114,8 @@ pub fn numbers_are_refused()
         ≡ refused 5 TOO_LARGE 0 }
 {}
 
-/// Words after the last number of a block, on its line: only zeros are accepted.
+/// Works out which words may follow the last number of a block on its line: zeros, also as `-0.0D7`. A 1 or a word that
+/// is no number is refused as TRAILING_NUMBERS.
 #[tactic(none)]
 pub fn words_after_a_block_are_zeros()
     ensures zeros { read (on_one_line (codes "2451545 2451546 1.5 -2 3 0 -0.0D7")) ≡ one_day }
@@ -114,9 +125,10 @@ pub fn words_after_a_block_are_zeros()
         ≡ refused 2 TRAILING_NUMBERS 0 }
 {}
 
-/// Lines that end within a block, or before the first, are refused.
+/// Works out the faults of lines that end early: NO_BLOCK if there is no line at all, and TRUNCATED after a record line
+/// or within the numbers of any block.
 #[tactic(none)]
-pub fn blocks_end_early()
+pub fn lines_that_end_within_a_block_are_refused()
     ensures no_line { read [] ≡ Err (ended NO_BLOCK) }
     ensures record_line { read (codes "1 5" ∷ []) ≡ Err (ended TRUNCATED) }
     ensures within { read open_day ≡ Err (ended TRUNCATED) }

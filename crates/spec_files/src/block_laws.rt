@@ -7,7 +7,8 @@ ghost use Rattle.spec_ephemeris.specs.declared.limits.TheConstants.{FIRST_TIME, 
 ghost use Rattle.spec_files.specs.Sections.{FileLine};
 ghost use Rattle.spec_files.specs.Blocks.{blocks};
 
-/// The blocks of accepted lines are a checked ephemeris of the given header, with one block or more.
+/// States that if lines are accepted as blocks of a header that meets the rules, the result is a checked ephemeris with
+/// this very header and at least one block.
 pub fn accepted_blocks_are_an_ephemeris()
     ensures checked { (h : Header) (lines : List FileLine) (e : Ephemeris)
         → IsHeader h → blocks h lines ≡ Ok e → IsEphemeris e }
@@ -17,7 +18,8 @@ pub fn accepted_blocks_are_an_ephemeris()
         → IsHeader h → blocks h lines ≡ Ok e → 0 < e.blocks }
 {}
 
-/// Accepted blocks lie from Julian date 0 to Julian date 5,000,000, in seconds.
+/// States that accepted blocks start and end from Julian date 0 to Julian date 5,000,000, both in seconds of TDB since
+/// J2000.
 pub fn accepted_blocks_lie_in_time()
     ensures first { (h : Header) (lines : List FileLine) (e : Ephemeris)
         → blocks h lines ≡ Ok e → FIRST_TIME ≤ℤ e.start }

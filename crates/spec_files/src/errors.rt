@@ -20,7 +20,7 @@ pub enum ReadError {
 impl From<Fault> for ReadError {
     ghost from_gives = { λ fault error. error ≡ errors.Fault fault };
 
-    // Returns the error for the first fault of the lines.
+    // Converts a fault of the lines to the error of reading them, which keeps the fault.
     fn from(fault: Fault) -> Self {
         ReadError::Fault(fault)
     }
@@ -29,7 +29,7 @@ impl From<Fault> for ReadError {
 impl From<AllocError> for ReadError {
     ghost from_gives = { λ _ error. error ≡ errors.Memory };
 
-    // Returns out of memory.
+    // Converts a failed allocation to the error of a reading that is out of memory.
     fn from(_: AllocError) -> Self {
         ReadError::Memory
     }
@@ -38,7 +38,8 @@ impl From<AllocError> for ReadError {
 impl<T: Drop> From<AllocFailed<T>> for ReadError {
     ghost from_gives = { λ _ error. error ≡ errors.Memory };
 
-    // Returns out of memory, and drops what found no room.
+    // Converts a failed allocation that hands back its value to the error of a reading that is out of memory, and drops
+    // the value.
     fn from(_: AllocFailed<T>) -> Self {
         ReadError::Memory
     }

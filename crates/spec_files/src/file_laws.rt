@@ -10,7 +10,7 @@ ghost use Rattle.spec_files.specs.Texts.{first_cut_from, joined_from};
 ghost use Rattle.spec_files.specs.Outcome.{first_fault, outcome};
 ghost use Rattle.spec_files.specs.Reading.{AreAccepted, AreRefused, IsNotRead};
 
-/// Accepted lines are a checked ephemeris with one block or more.
+/// States that lines that are accepted as a header and its blocks are a checked ephemeris with at least one block.
 #[tactic(none)]
 pub fn accepted_lines_are_an_ephemeris()
     ensures checked { (lines : List FileLine) (e : Ephemeris)
@@ -19,15 +19,17 @@ pub fn accepted_lines_are_an_ephemeris()
         → ephemeris lines ≡ Ok e → 0 < e.blocks }
 {}
 
-/// Accepted lines are an ephemeris that counts seconds, from Julian date 0 to Julian date 5,000,000.
+/// States that the ephemeris of accepted lines counts its times in seconds, and lies from Julian date 0 to Julian date
+/// 5,000,000.
 #[tactic(none)]
 pub fn accepted_lines_count_seconds()
     ensures { (lines : List FileLine) (e : Ephemeris) → ephemeris lines ≡ Ok e → IsInSeconds e }
 {}
 
-/// After texts that can be read to their ends, the lines and the first cut of later ones follow.
+/// States that if no line of the first texts is too long, the lines of later texts follow theirs, with files numbered
+/// on, and the first line that is too long of all texts is that of the later ones.
 #[tactic(auto, using(crate::proofs::Joining::joined_more, crate::proofs::Joining::cut_more))]
-pub fn later_texts_follow()
+pub fn lines_of_later_texts_follow()
     ensures lines { (file : ℕ) (texts later : List (List ℕ)) → first_cut_from file texts ≡ None
         → joined_from file (texts ++ later)
         ≡ joined_from file texts ++ joined_from (file + length texts) later }
@@ -35,7 +37,7 @@ pub fn later_texts_follow()
         → first_cut_from file (texts ++ later) ≡ first_cut_from (file + length texts) later }
 {}
 
-/// A first fault stays first, whatever texts follow.
+/// States that the first fault of texts, in its file, stays the first fault of all, whatever texts follow them.
 #[tactic(auto, using(crate::proofs::FirstFault::first_fault_stays))]
 pub fn first_faults_stay()
     ensures { (texts later : List (List ℕ)) (file : ℕ) (fault : Fault)
@@ -43,15 +45,15 @@ pub fn first_faults_stay()
         → first_fault (texts ++ later) ≡ Some (file, fault) }
 {}
 
-/// A fault that texts have, whatever follows, is what they are refused for.
+/// States that texts that have a first fault whatever follows them are refused for it, in the same file.
 #[tactic(auto, using(crate::proofs::Joining::first_fault_refused))]
 pub fn texts_with_a_fault_are_refused()
     ensures { (texts : List (List ℕ)) (file : ℕ) (fault : Fault)
         → first_fault texts ≡ Some (file, fault) → outcome texts ≡ Err (file, fault) }
 {}
 
-/// Of files that are known, one alone is true: they are accepted, and in one way; they are refused; or one of them is
-/// not read. Where the outside failed, what is accepted or refused may not be read.
+/// States that known files have only one outcome: accepted as one ephemeris, refused, or with a first file that is not
+/// read. Only if the count of faults of the outside rose may files that would be accepted or refused not be read.
 #[tactic(none)]
 pub fn one_answer_is_true()
     ensures accepted { (files : Files) (names : List (List ℕ)) (e f : Ephemeris) (end stop : ℕ)

@@ -6,14 +6,16 @@ ghost use Rattle.spec_files.specs.HeaderExamples.{half_seconds, header_with, of_
 ghost use Rattle.spec_ephemeris.specs.Examples.{column, one_column};
 ghost use Rattle.spec_files.specs.HeaderLines.{text_header};
 
-/// The header of a text is read, and the lines after it are left.
+/// Works out the header of a text of 17 lines: it is read, and the lines after `GROUP 1070` are left, from line 17 on.
+/// Another title, as a blank line, changes nothing.
 #[tactic(none)]
 pub fn a_header_is_read()
     ensures whole { text_header (text_of rows) ≡ read_before 17 }
     ensures blank_line { header_with 3 (codes " ") ≡ read_before 17 }
 {}
 
-/// Titles are not looked at, and words after those that count are skipped.
+/// Works out which words of a header are not looked at: its titles, and those after the three dates, after the names
+/// that are counted and after the values that are counted, even if they are no numbers.
 #[tactic(none)]
 pub fn some_words_are_skipped()
     ensures titles { header_with 3 (codes "1010 GROUP\n1.5.5") ≡ read_before 18 }
@@ -22,8 +24,8 @@ pub fn some_words_are_skipped()
     ensures values { header_with 11 (codes "81 x 9x") ≡ read_before 17 }
 {}
 
-/// A header may have 13 to 15 columns. Of columns 14 and 15 nothing is checked: column 14 may begin within Mercury's
-/// places, go past the block and have more than 32 coefficients. A block may have 64 days.
+/// Works out that a header may have 13 to 15 columns and blocks of 64 days. Of columns 14 and 15 nothing is checked:
+/// here column 14 starts within Mercury's places, goes past the block and has 40 coefficients.
 #[tactic(none)]
 pub fn wider_headers_are_read()
     ensures fourteen { text_header (text_of (with_more (codes " 27") (codes " 0") (codes " 0")))
@@ -36,8 +38,8 @@ pub fn wider_headers_are_read()
         ≡ read_with (pos 5529600) [] 17 }
 {}
 
-/// Headers at their limits: 2,000 constants, blocks of 3 to 4,096 numbers, 32 coefficients of a component, a ratio of
-/// masses from 1 to 1,000, and lines of 4,096 bytes.
+/// Works out headers at their limits: 2,000 constants, blocks of 4,096 numbers, 32 coefficients of a component, mass
+/// ratios of 1 and 1,000, and a line of 4,096 bytes are read. 4,097 numbers and a ratio of 1,000.1 are refused.
 #[tactic(none)]
 pub fn headers_are_read_at_their_limits()
     ensures constants { text_header (text_of (with_constants (codes "2000") 1_999)) ≡ read_before 17 }
@@ -52,7 +54,9 @@ pub fn headers_are_read_at_their_limits()
     ensures line { header_with 3 (replicate 4_096 65) ≡ read_before 17 }
 {}
 
-/// Lines before the names that are refused.
+/// Works out which lines before the names of a header are refused, each with its line, number and detail: a wrong first
+/// line, 2 numbers in a block, another group, and dates that are too few, of no whole second, below day 0, or of a
+/// block of 0 or 65 days.
 #[tactic(none)]
 pub fn the_first_lines_are_refused()
     ensures no_ncoeff { header_with 1 (codes "KSIZE= 52") ≡ refused 1 FIRST_LINE 0 }
@@ -66,7 +70,8 @@ pub fn the_first_lines_are_refused()
     ensures long_block { header_with 5 (codes "2451544.50 2451609.50 65.") ≡ refused 5 LIMIT 0 }
 {}
 
-/// Names and values that are refused.
+/// Works out which names and values of a header's constants are refused: 2,001 names, names without EMRAT, more values
+/// than names, an EMRAT that is no number, and a mass ratio of 0.5.
 #[tactic(none)]
 pub fn the_constants_are_refused()
     ensures many_names { header_with 7 (codes "2001") ≡ refused 7 LIMIT 0 }
@@ -76,7 +81,9 @@ pub fn the_constants_are_refused()
     ensures small_ratio { header_with 11 (codes "0.5 x") ≡ refused 11 EMRAT_RANGE 0 }
 {}
 
-/// Columns, and ends of a header, that are refused.
+/// Works out which columns and ends of a header are refused: 12 or 16 columns, rows of different counts, a word that is
+/// no number, 33 coefficients, places past the block or taken twice, granules of half seconds, and a text that ends or
+/// has a long line there.
 #[tactic(none)]
 pub fn the_columns_are_refused()
     ensures twelve_words { header_with 13 (codes "3 9 9 15 15 15 15 15 15 15 21 x")

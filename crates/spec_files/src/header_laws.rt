@@ -6,13 +6,13 @@ ghost use Rattle.spec_ephemeris.specs.declared.limits.TheConstants.{LONGEST_BLOC
 ghost use Rattle.spec_files.specs.HeaderLines.{header};
 ghost use Rattle.spec_files.specs.Sections.{FileLine};
 
-/// The header of an accepted list of lines meets the rules of a header.
+/// States that the header that is read from accepted lines meets all rules of a header.
 pub fn accepted_headers_meet_the_rules()
     ensures { (lines : List FileLine) (h : Header) (rest : List FileLine)
         → header lines ≡ Ok (h, rest) → IsHeader h }
 {}
 
-/// The blocks of an accepted header have up to 64 days, counted in seconds.
+/// States that the blocks of a header that is read from accepted lines are at most 64 days long, counted in seconds.
 pub fn accepted_headers_count_seconds()
     ensures { (lines : List FileLine) (h : Header) (rest : List FileLine)
         → header lines ≡ Ok (h, rest) → h.block_seconds ≤ℤ LONGEST_BLOCK }

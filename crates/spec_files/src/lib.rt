@@ -19,19 +19,21 @@ mod rules;
 mod uniqueness;
 
 pub use block_examples::{
-    angles_may_be_large, blocks_end_early, blocks_follow_one_another,
-    blocks_go_on_in_the_next_file, numbers_are_refused, places_of_bodies, record_lines_are_refused,
-    spans_are_refused, times_of_julian_dates, words_after_a_block_are_zeros,
+    angles_may_be_large, blocks_follow_one_another, blocks_go_on_in_the_next_file,
+    dates_of_blocks_are_refused, julian_dates_are_times, lines_that_end_within_a_block_are_refused,
+    numbers_are_refused, numbers_of_bodies_are_below_2_36_km, record_lines_are_refused,
+    words_after_a_block_are_zeros,
 };
 pub use block_laws::{accepted_blocks_are_an_ephemeris, accepted_blocks_lie_in_time};
 pub use errors::ReadError;
 pub use facts::{BlockShape, Facts};
 pub use file_examples::{
-    files_are_counted, named_files_are_read, texts_are_joined, texts_are_refused,
+    a_run_has_up_to_64_files, bytes_of_known_files_are_told_by_name,
+    lines_keep_their_file_and_number, texts_are_refused_at_their_first_fault,
 };
 pub use file_laws::{
     accepted_lines_are_an_ephemeris, accepted_lines_count_seconds, first_faults_stay,
-    later_texts_follow, one_answer_is_true, texts_with_a_fault_are_refused,
+    lines_of_later_texts_follow, one_answer_is_true, texts_with_a_fault_are_refused,
 };
 pub use header_examples::{
     a_header_is_read, headers_are_read_at_their_limits, some_words_are_skipped,

@@ -14,14 +14,15 @@ pub struct BrokenRule {
 }
 
 impl BrokenRule {
-    /// Returns the rule of this number, with what the number leaves open.
+    /// Makes the record of a broken rule: the number under which the fault is reported, and the detail that the number
+    /// leaves open, or 0.
     pub fn new(number: u8, detail: u16) -> Self
         ensures { result ≡ broken number detail }
     {
         BrokenRule { number, detail }
     }
 
-    /// Returns the fault of the line with this number.
+    /// Returns the fault of breaking this rule in the line with this number, counted from 1 in its file.
     pub fn at_line(self, line: u32) -> Fault
         ensures { result ≡ line_fault line self }
     {
@@ -33,7 +34,8 @@ impl BrokenRule {
     }
 }
 
-/// Returns the value that a rule gives, or the fault of the line with this number.
+/// Passes on the value that a rule gives; if the rule is broken instead, returns its fault in the line with this
+/// number.
 pub fn ruled_at<T>(line: u32, ruled: Result<T, BrokenRule>) -> Result<T, Fault>
     ensures { result ≡ ruled_at line ruled }
 {

@@ -4,8 +4,8 @@ ghost use Rattle.spec_text.specs.declared.decimals.Fault.{Fault};
 ghost use Rattle.gf_edges.specs.Edges.{Files, Rose};
 ghost use Rattle.spec_files.specs.Reading.{AreRefused, IsNotRead};
 
-/// Files that are known are refused in one way: one fault, in one file. Where the outside did not fail, one file alone is
-/// the first that is not read.
+/// States that known files are refused in one way only, for one fault in one file. If the count of faults of the
+/// outside did not rise, only one file can be the first that is not read.
 #[tactic(none)]
 pub fn files_are_refused_in_one_way()
     ensures refused { (files : Files) (names : List (List ℕ)) (file place : ℕ) (fault other : Fault)

@@ -6,8 +6,9 @@ ghost use Rattle.spec_generated.specs.Coefficients.{millionths, term_at};
 ghost use Rattle.spec_generated.specs.Draws.{draws_upto, drawn, state_after};
 ghost use Rattle.spec_generated.specs.Words.{block_number, block_word};
 
-/// A draw is the upper half of the state after it. Mercury's coefficients stand at the places 3 to 170, 14 of a
-/// component, and a draw that is below 2^31 makes a coefficient below 0.
+/// Works out how coefficients are drawn from the seed 7. A draw is the upper 32 bits of the state after it, and one
+/// below 2^31 makes a coefficient below 0. In a block, places 3 to 170 hold Mercury's coefficients, of degrees 0 to 13,
+/// and places from 171 on those of Venus.
 #[tactic(auto, unfolding(crate::specs::Draws::state_after, crate::specs::Coefficients::term_at))]
 pub fn coefficients_are_drawn()
     ensures state { state_after 7 2 ≡ 17628806926561717905 }
@@ -21,9 +22,11 @@ pub fn coefficients_are_drawn()
     ensures towards_zero { millionths (record { scale = 3; degree = 16 }) 2147483647 ≡ pos 0 }
 {}
 
-/// The first words of the first block, and the word after its last number, for the seed 7.
+/// Works out lines of the text that the seed 7 makes: the first block's record line, its first row with both dates and
+/// a coefficient, its fourth row, and the zero after its last number at place 1,019. Two numbers are given as decimals
+/// too.
 #[tactic(auto, unfolding(crate::specs::Draws::state_after, crate::specs::Coefficients::term_at, crate::specs::Words::block_word, crate::specs::Words::block_number))]
-pub fn the_first_lines_of_seed_seven()
+pub fn lines_of_seed_seven_are_in_jpl_form()
     ensures record_line { record_line 0 ≡ codes "1 1018" }
     ensures dates { row (block_word 7 0) 1
         ≡ codes "0.245153650000000000D+07 0.245156850000000000D+07 -0.000000787133484000D+12" }

@@ -7,8 +7,8 @@ ghost use Rattle.spec_files.specs.Outcome.{first_fault, outcome};
 ghost use Rattle.spec_generated.specs.Generated.{generated_ephemeris, generated_text};
 ghost use Rattle.spec_generated.specs.declared.limits.TheConstants.{MAX_GENERATED};
 
-/// A generated text of 1 to 40 blocks and any seed has no fault, as the one file: it is the ephemeris of the header of
-/// DE405 and that many blocks, which begins at Julian date 2451536.5.
+/// States that a generated text of 1 to 40 blocks and any seed has no fault, and, as the one file of a run, is accepted
+/// as the checked ephemeris with DE405's header and that many blocks, from Julian date 2451536.5 on.
 pub fn generated_texts_are_accepted()
     ensures no_fault { (blocks seed : ℕ) → 0 < blocks → blocks ≤ MAX_GENERATED
         → first_fault (generated_text blocks seed ∷ []) ≡ None }
@@ -18,10 +18,10 @@ pub fn generated_texts_are_accepted()
         → IsEphemeris (generated_ephemeris blocks seed) }
 {}
 
-/// The columns are those of the header. At the place of the coefficient of T_k of an axis of a granule, by the order in
-/// which a block holds them, stands a coefficient of that column's scale and of degree k.
+/// States that the generated columns are those of DE405's header, and that at the place of a block that holds the
+/// coefficient of T_k of a column a generated coefficient has the column's scale and the degree k.
 #[tactic(auto, using(crate::proofs::Terms::term_place))]
-pub fn places_have_terms()
+pub fn places_hold_coefficients_of_their_column()
     ensures columns { map (λ c. c.column) scaled_columns ≡ de405.columns }
     ensures terms { (number granule axis k : ℕ) (c : ScaledColumn)
         → IsTermAt number c granule axis k

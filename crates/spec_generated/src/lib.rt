@@ -9,6 +9,6 @@ mod laws;
 mod limits;
 
 pub use columns::{COLUMNS, CoefficientShape};
-pub use examples::{coefficients_are_drawn, the_first_lines_of_seed_seven};
-pub use laws::{generated_texts_are_accepted, places_have_terms};
+pub use examples::{coefficients_are_drawn, lines_of_seed_seven_are_in_jpl_form};
+pub use laws::{generated_texts_are_accepted, places_hold_coefficients_of_their_column};
 pub use limits::{BLOCK_DATES, DRAWS, FACTOR, FIRST_DATE, INCREMENT, MAX_GENERATED, NCOEFF, ROWS};

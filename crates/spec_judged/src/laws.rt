@@ -11,8 +11,8 @@ ghost use Rattle.spec_events.specs.Events.{AreWindows, HasNoEvent, HoldsOne};
 ghost use Rattle.spec_events.specs.Marks.{AreRightlyMarked};
 ghost use Rattle.spec_judged.specs.Judged.{IsJudged, IsLeftUndecided, Judged, events};
 
-/// A valid node that is clear holds no event, and one whose verdict is one event holds exactly one, a turn in its
-/// direction.
+/// States that in a judged search, whose verdicts follow from true findings, a valid node that is clear holds no event,
+/// and one whose verdict is one event holds exactly one, a turn in its direction.
 pub fn verdicts_are_true()
     ensures clear { (s : Judged) (n : Node) → IsJudged s → IsValid s.rules n
         → s.rules.verdict n ≡ Clear → HasNoEvent (events s) n.a n.b }
@@ -20,16 +20,16 @@ pub fn verdicts_are_true()
         → s.rules.verdict n ≡ One turn → HoldsOne (events s) turn (window_of n (Certain turn)) }
 {}
 
-/// Each leaf of the rules has the right mark: a clear one has no event, one with a turn has exactly one event, and an
-/// undecided one is no wider than the width or as deep as the depth.
+/// States that in a judged search each leaf has the right mark: a clear one has no event, one with a turn exactly one
+/// event, and an undecided one is no wider than the width or as deep as the depth.
 pub fn leaves_are_rightly_marked()
     ensures { (s : Judged) (ls : List Leaf) → IsJudged s → AreLeaves s.rules ls
         → AreRightlyMarked (events s) (IsLeftUndecided s ls) ls }
 {}
 
-/// The windows of leaves that cover a span are those of its events. They lie in the span in order and hold every
-/// event, each certain one exactly one. Each time of an undecided one lies in a leaf that was left undecided and lies
-/// in the window. This holds for any such leaves, and so for those of a valid node's tree.
+/// States that the windows of leaves that cover a span, of a judged search, lie in it in order and hold every event,
+/// each certain one exactly one; each undecided time lies in an undecided leaf. Stated for any such leaves and for
+/// those of a valid node's tree.
 pub fn windows_hold_the_events()
     ensures of_leaves { (s : Judged) (a b : ℤ) (ls : List Leaf) → IsJudged s
         → Covers a ls b → AreLeaves s.rules ls

@@ -11,8 +11,10 @@ ghost use Rattle.spec_kinds.specs.Kinds.{function_of, conditions_of};
 ghost use Rattle.spec_kinds.specs.Faults.{fault_of};
 ghost use Rattle.spec_kinds.specs.Examples.{of_one, of_two, three_fifths, places, IsZeroAt};
 
-/// A coordinate less its value; the conjunction of target and second body, which asks for one side of the pole.
-pub fn functions_of_kinds()
+/// Works out terms of three kinds of events. The function of `coord` is the coordinate less its value, here 5 km, and
+/// that of `station` the plane cross product of position and velocity. A conjunction has one condition: the plane dot
+/// product is at least 0.
+pub fn functions_of_kinds_are_terms_of_coordinates()
     ensures coordinate { function_of (of_one K.Coord Mercury Ssb (whole (pos 5)))
         ≡ difference (leaf (position 0 0)) (length (whole (pos 5))) }
     ensures station { function_of (of_one K.Station Mercury Earth (whole (pos 0)))
@@ -26,10 +28,10 @@ pub fn functions_of_kinds()
         } ∷ [] }
 {}
 
-/// Where the target is at (3, 4, 0) and the second body at (5, 0, 0), their angle has the cosine 0.6. A sphere of the
-/// radius 15 at (25, 0, 0) and one of 25 at a distance of 65 touch from outside at (33, 56, 0), and from inside at
-/// (63, 16, 0), since 33 is 48 - 15 and 63 is 48 + 15.
-pub fn functions_of_places()
+/// Works out places, in km, at which a kind's function is exactly 0. For `sep`, (3, 4, 0) and (5, 0, 0) are seen at an
+/// angle of cosine 0.6. A sphere of radius 15 at (25, 0, 0) touches one of 25 from outside (`any`, at (33, 56, 0)) and
+/// from inside (`full`).
+pub fn functions_are_0_at_their_events()
     ensures separation { IsZeroAt K.Sep three_fifths (whole (pos 0))
         (places (pos 3) (pos 4) (pos 5) (pos 0)) }
     ensures outside { IsZeroAt K.Any (whole (pos 15)) (whole (pos 25))
@@ -38,9 +40,9 @@ pub fn functions_of_places()
         (places (pos 25) (pos 0) (pos 63) (pos 16)) }
 {}
 
-/// Venus is not in the block, which is reported before it is seen from itself; the Sun seen from itself is reported before its
-/// distance, which is negative.
-pub fn faults_in_their_order()
+/// Works out which fault of an ask is reported if several apply: an absent body, here Venus, before a body that is
+/// named twice, and that before a negative distance. A coordinate may have a negative value, so that ask has no fault.
+pub fn first_faults_are_reported()
     ensures absent { fault_of moving_moon (of_one K.Radius Venus Venus (whole (neg_ℤ (pos 1))))
         ≡ Some BodyAbsent }
     ensures same { fault_of moving_moon (of_one K.Radius Sun Sun (whole (neg_ℤ (pos 1))))
@@ -50,9 +52,10 @@ pub fn faults_in_their_order()
     ensures none { fault_of moving_moon (of_one K.Coord Sun Ssb (whole (neg_ℤ (pos 1)))) ≡ None }
 {}
 
-/// The Earth needs the columns of the Earth-Moon barycentre and of the Moon. A kind asks nothing of numbers that it
-/// does not use, and a cosine may be 1.
-pub fn faults_by_kinds()
+/// Works out that a number of 2^36 km is a fault only for a kind that uses it, as a radius of `any`, not for `apsis` or
+/// as second number of `sep`, whose cosine may be 1. The Earth needs the columns of the Earth-Moon barycentre and of
+/// the Moon alone.
+pub fn only_numbers_in_use_have_faults()
     ensures earth { fault_of moving_moon (of_one K.Apsis Moon Earth (whole (pos (2 ^ 36)))) ≡ None }
     ensures cosine { fault_of moving_moon
         (of_two K.Sep Moon Sun Earth (whole (pos 1)) (whole (pos (2 ^ 36)))) ≡ None }

@@ -10,15 +10,16 @@ pub enum EventFault {
     BodyAbsent,
     /// Fault 51: two of the target, the second body and the observer are one body.
     SameBody,
-    /// Fault 52: a cosine is past 1 in magnitude, a coordinate's value is at least 2^36 km in magnitude, or a distance or a
-    /// radius is negative or at least 2^36 km.
+    /// Fault 52: a cosine is past 1 in magnitude, a coordinate's value is at least 2^36 km in magnitude, or a distance
+    /// or a radius is negative or at least 2^36 km.
     ReferenceRange,
 }
 
 impl EventFault {
     ghost use Rattle.spec_kinds.specs.Faults.{number_of};
 
-    /// Returns the number under which the fault is reported: 50, 51 or 52.
+    /// Returns the number under which this fault is reported: 50 for an absent body, 51 for a body that is named twice,
+    /// 52 for a number out of range.
     pub fn number(self) -> u8
         ensures { result ≡ number_of self }
     {

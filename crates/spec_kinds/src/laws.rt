@@ -18,14 +18,16 @@ ghost use Rattle.spec_kinds.specs.Table.{place, row_of, rows};
 ghost use Rattle.spec_kinds.specs.declared.kind.Kind.{Kind};
 ghost use Rattle.spec_kinds.specs.Searches.{view_of_ask, search_of};
 
-/// Where an ask has no fault, its function and its conditions are formulas.
+/// States that the function and the conditions of an ask without a fault are formulas, whose sizes and constants are
+/// within the limits for evaluation.
 pub fn events_are_formulas()
     ensures { (e : Ephemeris) (ask : Ask) → IsAsk ask → fault_of e ask ≡ None
         → AreFormulas (event_of ask) }
 {}
 
-/// Where an ask has no fault, the columns of its bodies are there, and no target is the observer.
-pub fn targets_are_there()
+/// States that the targets and the observer of an ask without a fault are in the ephemeris, that no target is the
+/// observer or the barycentre of the solar system, and that they make a checked view of the ephemeris.
+pub fn targets_without_fault_can_be_observed()
     ensures present { (e : Ephemeris) (ask : Ask) → fault_of e ask ≡ None
         → All (HasBody e) (ask.observer ∷ targets_of ask) }
     ensures bodies { (ask : Ask) → IsAsk ask → All (λ target. target ≢ Ssb) (targets_of ask) }
@@ -35,22 +37,25 @@ pub fn targets_are_there()
         → fault_of e ask ≡ None → IsView (view_of_ask e ask) }
 {}
 
-/// An ask without a fault means a search.
+/// States that an ask without a fault makes a valid search over a checked ephemeris with at least one block, for each
+/// width above 0, each greatest depth and each cut rule.
 pub fn asks_mean_searches()
     ensures { (e : Ephemeris) (ask : Ask) (width depth : ℕ) (cut : CutRule)
         → IsEphemeris e → 0 < e.blocks → IsAsk ask → fault_of e ask ≡ None
         → 0 < width → IsSearch (search_of e ask width depth cut) }
 {}
 
-/// The tests of faults decide what they are named for.
-pub fn tests_mean()
+/// States that the four tests behind faults decide what they are named for: whether an ephemeris has a body's columns,
+/// whether two bodies are one, whether a number is a length below 2^36 km, and whether one is a cosine.
+pub fn tests_decide_what_they_are_named_for()
     ensures body { (e : Ephemeris) (body : Body) → IsTrue (has_body e body) ↔ HasBody e body }
     ensures same { (one other : Body) → IsTrue (is_same one other) ↔ (one ≡ other) }
     ensures distance { (d : Decimal) → IsTrue (is_distance d) ↔ IsDistance d.mant d.exp }
     ensures cosine { (d : Decimal) → IsTrue (is_cosine d) ↔ IsCosine d.mant d.exp }
 {}
 
-/// Each kind has a row of its own in the table.
+/// States that each kind of event has its own row in the table of kinds: its place is within the table, and the row
+/// there is of this kind.
 pub fn kinds_have_rows()
     ensures there { (kind : Kind) → place kind < length rows }
     ensures own { (kind : Kind) → (row_of kind).kind ≡ kind }

@@ -186,14 +186,14 @@ pub const KINDS: [(&str, KindRow); 11] = [
 ];
 
 impl Use {
-    /// Tells whether the value has to be there.
+    /// Returns whether this use is `Needed`, so that a request has to give the value.
     pub fn is_needed(self) -> bool
         ensures { result ≡ is_needed self }
     {
         matches!(self, Needed)
     }
 
-    /// Tells whether the value must be left out.
+    /// Returns whether this use is `Unused`, so that a request must leave the value out.
     pub fn is_unused(self) -> bool
         ensures { result ≡ is_unused self }
     {
@@ -202,70 +202,73 @@ impl Use {
 }
 
 impl Kind {
-    /// Returns the name of the kind, as words and reports write it.
+    /// Returns the name of the kind, as command lines and reports write it: `coord`, `radius` and so on.
     pub fn name(self) -> &'static str
         ensures { result.now ≡ kind_name self }
     {
         KINDS[self as usize].0
     }
 
-    // Returns the row of the kind in the table.
+    // Returns the row of this kind in the table of kinds. The table stands in the order of the variants, so a variant's
+    // number is its row's index.
     fn row(self) -> KindRow
         ensures { result ≡ row_of self }
     {
         KINDS[self as usize].1
     }
 
-    /// Returns how the kind uses the second body.
+    /// Returns how this kind of event uses a second body: needed, optional or unused. No kind has it as optional.
     pub fn second(self) -> Use
         ensures { result ≡ (row_of self).second }
     {
         self.row().second
     }
 
-    /// Returns how the kind uses the frame.
+    /// Returns how this kind of event uses the frame in which coordinates are measured: optional if it looks at
+    /// coordinates, else unused.
     pub fn frame(self) -> Use
         ensures { result ≡ (row_of self).frame }
     {
         self.row().frame
     }
 
-    /// Returns how the kind uses the axis.
+    /// Returns how this kind of event uses the axis of a coordinate: needed for `coord`, else unused.
     pub fn axis(self) -> Use
         ensures { result ≡ (row_of self).axis }
     {
         self.row().axis
     }
 
-    /// Returns how the kind uses the reference value.
+    /// Returns how this kind of event uses a reference value, which its function passes: needed, optional or unused.
     pub fn reference(self) -> Use
         ensures { result ≡ (row_of self).reference }
     {
         self.row().reference
     }
 
-    /// Returns the range of the kind's reference value.
+    /// Returns which reference values this kind takes: lengths or distances in km, cosines, or anything (`Free`) if it
+    /// uses none.
     pub fn range(self) -> Range
         ensures { result ≡ (row_of self).range }
     {
         self.row().range
     }
 
-    /// Returns how the kind uses the two radii.
+    /// Returns how this kind of event uses the radii of both bodies, in km: needed for occultations, else unused.
     pub fn radii(self) -> Use
         ensures { result ≡ (row_of self).radii }
     {
         self.row().radii
     }
 
-    /// Tells whether events of the kind are of two bodies.
+    /// Returns whether events of this kind are of two bodies, so that a request has to name the second.
     pub fn takes_second(self) -> bool
         ensures { result ≡ takes_second self }
     {
         self.second().is_needed()
     }
 
-    /// Tells whether events of the kind lie between two discs, whose radii are asked for.
+    /// Returns whether this kind is an occultation, so that a request has to give the radii of both bodies.
     pub fn takes_radii(self) -> bool
         ensures { result ≡ takes_radii self }
     {

@@ -9,8 +9,9 @@ ghost use Rattle.spec_kinds.specs.Kinds.{kind_conditions};
 ghost use Rattle.spec_kinds.specs.Shadows.{farther, larger};
 ghost use Rattle.spec_meanings.specs.Examples.{at, worth, function_worth, at_rest, moving, inside, within};
 
-/// The target is at (1, 2, 2) and moves by (1, 0, 1) a second; the second body is at (2, 3, 6) and moves by (0, 1, -1).
-pub fn functions_in_motion()
+/// Works out the functions of eight kinds of events in one scene, in km and seconds: the target is at (1, 2, 2) and
+/// moves by (1, 0, 1) a second, the second body is at (2, 3, 6) and moves by (0, 1, -1).
+pub fn eight_functions_are_worked_out_in_a_moving_scene()
     ensures coordinate { function_worth K.Coord (whole (pos 5)) (whole (pos 0)) moving
         ≡ neg_ℤ (pos 4) }
     ensures radius { function_worth K.Radius (whole (pos 2)) (whole (pos 0)) moving ≡ pos 5 }
@@ -26,8 +27,9 @@ pub fn functions_in_motion()
         ≡ pos 1128 }
 {}
 
-/// Occultations in the same scene: a sphere of the radius 2 and one of 5, 3 and 7 km away.
-pub fn occultations_in_motion()
+/// Works out the functions and conditions of occultations by a sphere of radius 2 km that is 3 km away, of one of
+/// radius 5 km that is 7 km away. It is no farther (40 is at least 0), and its disc is not the larger (-29).
+pub fn occultations_are_worked_out_in_a_moving_scene()
     ensures any { function_worth K.Any (whole (pos 2)) (whole (pos 5)) moving ≡ pos 780 }
     ensures full { function_worth K.Full (whole (pos 2)) (whole (pos 5)) moving ≡ neg_ℤ (pos 20) }
     ensures annular { function_worth K.Annular (whole (pos 2)) (whole (pos 5)) moving
@@ -36,9 +38,10 @@ pub fn occultations_in_motion()
     ensures larger { worth (larger (whole (pos 2)) (whole (pos 5))) moving ≡ neg_ℤ (pos 29) }
 {}
 
-/// Where a sphere of the radius 15 is in front of one of 25 and they touch from inside, the function of `full` is 0 and the
-/// disc in front is larger; where one of 25 is in front of one of 45, that of `annular` is 0 and it is smaller.
-pub fn touching_discs()
+/// Works out occultations whose discs touch from inside, at which the function is 0. For `full` a sphere of radius 15
+/// is in front of one of 25 and its disc is larger; for `annular` one of 25 is in front of one of 45 and its disc is
+/// smaller.
+pub fn functions_are_0_where_discs_touch()
     ensures full { function_worth K.Full (whole (pos 15)) (whole (pos 25)) inside ≡ pos 0 }
     ensures full_larger { worth (larger (whole (pos 15)) (whole (pos 25))) inside ≡ pos 560000 }
     ensures annular { function_worth K.Annular (whole (pos 25)) (whole (pos 45)) within ≡ pos 0 }
@@ -47,8 +50,9 @@ pub fn touching_discs()
         ≡ neg_ℤ (pos 5040000) }
 {}
 
-/// The condition of an opposition: the dot product in the plane of x and y is below 0, as that of (3, 4, 7) and (-6, -8, 1).
-pub fn condition_of_opposition()
+/// Works out the condition of an opposition: the dot product of both places in the plane of x and y is below 0. For (3,
+/// 4, 7) and (-6, -8, 1) it is -50.
+pub fn oppositions_need_a_plane_dot_product_below_0()
     ensures condition { kind_conditions K.Oppo (whole (pos 0)) (whole (pos 0)) ≡ record {
       term = sum (product (leaf (position 0 0)) (leaf (position 1 0)))
           (product (leaf (position 0 1)) (leaf (position 1 1)));

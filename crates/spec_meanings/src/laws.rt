@@ -25,7 +25,7 @@ ghost use Rattle.spec_meanings.specs.Derivatives.{IsDerivative, IsVelocity, squa
 ghost use Rattle.spec_meanings.specs.Events.{Is0, Hold};
 ghost use Rattle.spec_meanings.specs.Frames.{coordinate_value, obliquity_cosine, obliquity_sine, squares};
 
-/// A fraction that is n / d is at least 0, below 0 or 0 exactly where n is.
+/// States that a fraction that is equal to n / d, with d above 0, is at least 0, below 0 or 0 exactly if n is.
 pub fn ratios_have_signs()
     ensures not_negative { (r : Fraction) (n : ℤ) (d : ℕ) → IsRatio r n d
         → (pos 0 ≤ℤ r.numerator) ↔ (pos 0 ≤ℤ n) }
@@ -35,10 +35,9 @@ pub fn ratios_have_signs()
         → (r.numerator ≡ pos 0) ↔ (n ≡ pos 0) }
 {}
 
-/// Conjunctions: the function is 0 and the condition holds exactly where both bodies lie in one half plane through the z
-/// axis. The function is at least 0 exactly where the second body is on the side of the target's meridian to which
-/// longitudes grow, or on that meridian's plane.
-pub fn conjunctions()
+/// States that the function of a conjunction is 0 and its condition holds exactly if both bodies lie in one half plane
+/// through the z axis, and that the function is at least 0 exactly on one side of the target's meridian.
+pub fn conjunctions_are_in_one_half_plane()
     ensures meet { (exact : Leaf → ℤ → Fraction) (t : ℤ) (s : Scene) → Shows exact t s
         → (axis : ℕ) (one other : Decimal)
         → (Is0 exact (kind_function K.Conj axis one other) t
@@ -49,9 +48,9 @@ pub fn conjunctions()
         ↔ (pos 0 ≤ℤ plane_dot (quarter_turned s.target) s.second) }
 {}
 
-/// Oppositions: the function is 0 and the condition holds exactly where both bodies lie off the axis in opposite half
-/// planes; the function is that of conjunctions.
-pub fn oppositions()
+/// States that the function of an opposition is 0 and its condition holds exactly if both bodies lie in opposite half
+/// planes through the z axis and off it, and that the function has the sign that it has for conjunctions.
+pub fn oppositions_are_in_opposite_half_planes()
     ensures meet { (exact : Leaf → ℤ → Fraction) (t : ℤ) (s : Scene) → Shows exact t s
         → (axis : ℕ) (one other : Decimal)
         → (Is0 exact (kind_function K.Oppo axis one other) t
@@ -63,9 +62,9 @@ pub fn oppositions()
         ↔ (pos 0 ≤ℤ plane_dot (quarter_turned s.target) s.second) }
 {}
 
-/// Coordinates and distances: each function is at least 0 exactly where the coordinate is at least the value, and the
-/// distance at least that value's magnitude.
-pub fn coordinates_and_distances()
+/// States that the function of `coord` is at least 0 exactly if the coordinate is at least its value, and that of
+/// `radius` exactly if the distance is at least the value's magnitude.
+pub fn coordinates_and_distances_are_compared()
     ensures coordinate { (exact : Leaf → ℤ → Fraction) (t : ℤ) (s : Scene) → Shows exact t s
         → (axis : ℕ) (one other : Decimal) (n : ℤ) → axis < 3 → IsLong s one n
         → IsNotNegative (exact_of exact (kind_function K.Coord axis one other)) t
@@ -76,18 +75,18 @@ pub fn coordinates_and_distances()
         ↔ IsFrom s.target n }
 {}
 
-/// Separations: the function is at least 0 exactly where the angle is at most that of the cosine, for cosines of either
-/// sign.
-pub fn separations()
+/// States that the function of `sep` is at least 0 exactly if the angle between both bodies is at most the angle of the
+/// given cosine c / d, which may have either sign.
+pub fn separations_are_compared()
     ensures { (exact : Leaf → ℤ → Fraction) (t : ℤ) (s : Scene) → Shows exact t s
         → (axis : ℕ) (one other : Decimal) (c : ℤ) (d : ℕ) → IsCosineOf one c d
         → IsNotNegative (exact_of exact (kind_function K.Sep axis one other)) t
         ↔ AreWithin s.target s.second c d }
 {}
 
-/// The conditions of occultations: the target is no farther than the second body; for `full` its disc is no smaller too,
-/// and for `annular` it is smaller.
-pub fn conditions_of_occultations()
+/// States that the conditions of an occultation hold exactly if the target is no farther than the second body and, for
+/// `full`, its disc is no smaller, or, for `annular`, its disc is smaller.
+pub fn conditions_of_occultations_compare_discs()
     ensures any { (exact : Leaf → ℤ → Fraction) (t : ℤ) (s : Scene) → Shows exact t s
         → (front back : Decimal)
         → Hold exact (kind_conditions K.Any front back) t ↔ IsNoFarther s.target s.second }
@@ -101,8 +100,9 @@ pub fn conditions_of_occultations()
         ↔ (IsNoFarther s.target s.second × IsSmaller s.target r s.second q) }
 {}
 
-/// The other kinds have no condition: each turn of their function is an event.
-pub fn kinds_without_conditions()
+/// States that six kinds have no condition, so that each turn of their function is an event: `coord`, `radius`,
+/// `apsis`, `station`, `sep` and `sepext`.
+pub fn six_kinds_have_no_conditions()
     ensures coordinate { (one other : Decimal) → kind_conditions K.Coord one other ≡ [] }
     ensures radius { (one other : Decimal) → kind_conditions K.Radius one other ≡ [] }
     ensures apsis { (one other : Decimal) → kind_conditions K.Apsis one other ≡ [] }
@@ -111,9 +111,9 @@ pub fn kinds_without_conditions()
     ensures separation_extreme { (one other : Decimal) → kind_conditions K.SepExt one other ≡ [] }
 {}
 
-/// Occultations of the kind `any`, for an observer outside both spheres: the function is at least 0 exactly where some ray
-/// from the observer meets both.
-pub fn overlaps()
+/// States that the function of `any` is at least 0 exactly if some ray from the observer meets both spheres. The
+/// observer has to be outside both.
+pub fn any_occultation_is_a_common_ray()
     ensures { (exact : Leaf → ℤ → Fraction) (t : ℤ) (s : Scene) → Shows exact t s
         → (axis : ℕ) (front back : Decimal) (r q : ℤ) → IsLong s front r → IsLong s back q
         → IsSphere s.target r → IsSphere s.second q
@@ -121,9 +121,9 @@ pub fn overlaps()
         ↔ SomeRayMeetsBoth s.target r s.second q }
 {}
 
-/// Occultations of the kind `full`, for an observer outside both spheres: the function is at least 0, and the disc of the
-/// target is no smaller, exactly where each ray that meets the second body meets the target.
-pub fn full_occultations()
+/// States that the function of `full` is at least 0 and the target's disc no smaller exactly if each ray from the
+/// observer that meets the second body meets the target. The observer has to be outside both spheres.
+pub fn full_occultations_cover_the_second_body()
     ensures { (exact : Leaf → ℤ → Fraction) (t : ℤ) (s : Scene) → Shows exact t s
         → (axis : ℕ) (front back : Decimal) (r q : ℤ) → IsLong s front r → IsLong s back q
         → IsSphere s.target r → IsSphere s.second q
@@ -131,9 +131,9 @@ pub fn full_occultations()
         × IsNoSmaller s.target r s.second q) ↔ Covers s.target r s.second q }
 {}
 
-/// Occultations of the kind `annular`, for an observer outside both spheres: the function is at least 0, and the disc of
-/// the second body is no smaller, exactly where each ray that meets the target meets the second body.
-pub fn annular_occultations()
+/// States that the function of `annular` is at least 0 and the second body's disc no smaller exactly if each ray from
+/// the observer that meets the target meets the second body. The observer has to be outside both spheres.
+pub fn annular_occultations_lie_within_the_second_body()
     ensures { (exact : Leaf → ℤ → Fraction) (t : ℤ) (s : Scene) → Shows exact t s
         → (axis : ℕ) (front back : Decimal) (r q : ℤ) → IsLong s front r → IsLong s back q
         → IsSphere s.target r → IsSphere s.second q
@@ -141,9 +141,9 @@ pub fn annular_occultations()
         × IsNoSmaller s.second q s.target r) ↔ Covers s.second q s.target r }
 {}
 
-/// The axes of the ecliptic are x, and y and z turned: the squares of y and z together grow by the factor c^2 + s^2, c and
-/// s the cosine and the sine of the obliquity, which is 1 but for at most 10^-15.
-pub fn ecliptic()
+/// States how ecliptic coordinates come from equatorial ones: x stays, and y and z are turned by the obliquity. Its
+/// cosine and sine are decimals, so lengths in that plane, squared, grow by c^2 + s^2, which is 1 within 10^-15.
+pub fn ecliptic_coordinates_are_turned()
     ensures first { (column : ℕ → ℕ → ℤ → Fraction) (ratio : Decimal) (own : ℕ → Coordinate)
         (t : ℤ) → coordinate_value column (factor ratio) (in_frame Ecl own 0) t
         ≡ coordinate_value column (factor ratio) (own 0) t }
@@ -163,16 +163,18 @@ pub fn ecliptic()
         ≤ 10 ^ 15 }
 {}
 
-/// A function of whole numbers has one derivative: only one changes it, over each h, up to a multiple of h^2.
-pub fn derivatives()
+/// States that a function of whole numbers has at most one derivative, which is what it changes by for each h, over h,
+/// up to a multiple of h. That of a Chebyshev polynomial, cleared of fractions, is the one that velocities are made of.
+pub fn derivatives_are_unique()
     ensures one { (f g g' : ℤ → ℤ) → IsDerivative f g → IsDerivative f g' → (t : ℤ) → g t ≡ g' t }
     ensures chebyshev { (l : ℤ) (k : ℕ)
         → IsDerivative (λ u. cleared_t u l k) (λ u. cleared_slope u l k) }
 {}
 
-/// Within a granule the exact velocity is the derivative of the exact position, over one denominator; so it is of every
-/// coordinate of a body that is seen from an observer in a frame, as long as each column stays in one granule.
-pub fn velocities()
+/// States that within a granule the exact velocity is the derivative of the exact position, both over one denominator.
+/// The velocity of every coordinate of a body seen from an observer is the derivative of that coordinate in the same
+/// way, as long as each column stays in one granule.
+pub fn velocities_are_derivatives()
     ensures derivative { (s : Series)
         → IsDerivative (λ t. (position s t).numerator) (λ t. (velocity s t).numerator) }
     ensures denominator { (s : Series) (t : ℤ)
@@ -181,10 +183,10 @@ pub fn velocities()
         → IsRate (placed series factors c) (moved series factors c) }
 {}
 
-/// Of places that move: the square of the distance changes by twice the function of `apsis`; the cross product of a place
-/// that stands still with one that moves changes by its cross product with the velocity, so that from where the target is
-/// it changes by the function of `station`; dot products and squares change by what the function of `sepext` is made of.
-pub fn changes()
+/// States derivatives of products of moving places: of the square of a distance, which is twice the function of
+/// `apsis`; of the cross product with a place that stands still, as in `station`; of a dot product; and of the product
+/// of two squares.
+pub fn products_of_moving_places_have_derivatives()
     ensures distance { (a a' : ℤ → Triple) → IsVelocity a a'
         → IsDerivative (λ t. square (a t)) (λ t. pos 2 *ℤ dot (a t) (a' t)) }
     ensures longitude { (o : Triple) (a a' : ℤ → Triple) → IsVelocity a a'
@@ -195,10 +197,9 @@ pub fn changes()
         → IsDerivative (squares_product a b) (λ t. pos 2 *ℤ half_change a a' b b' t) }
 {}
 
-/// The function N of `sepext` beside the cosine, which is D over the root of A B, where D is the dot product of both places, A
-/// and B are the squares of their distances and ' is the change a second: the square of the cosine has the derivative
-/// 2 D N / (A B)^2, and where D is 0, N is D' A B.
-pub fn changes_of_cosines()
+/// States that the function N of `sepext` tells how the cosine of the angle changes. With D the dot product of both
+/// places and A and B their squares, the squared cosine has the derivative 2 D N / (A B)^2; if D is 0, N is D' A B.
+pub fn cosines_change_by_the_function_of_sepext()
     ensures square { (s : Scene) → (pos 2 *ℤ (dot s.target s.second *ℤ dot_change s))
         *ℤ (square s.target *ℤ square s.second)
         -ℤ (dot s.target s.second *ℤ dot s.target s.second) *ℤ (pos 2 *ℤ half_square_change s)
@@ -207,8 +208,9 @@ pub fn changes_of_cosines()
         → separation_change s ≡ dot_change s *ℤ (square s.target *ℤ square s.second) }
 {}
 
-/// The functions of `apsis`, `station` and `sepext` are the polynomials of a scene that say how its places change.
-pub fn rates()
+/// States that the exact values of the functions of `apsis`, `station` and `sepext` are the polynomials of a scene by
+/// which distance, longitude and angle change.
+pub fn functions_of_changes_are_polynomials_of_scenes()
     ensures apsis { (exact : Leaf → ℤ → Fraction) (t : ℤ) (s : Scene) → Shows exact t s
         → (axis : ℕ) (one other : Decimal)
         → IsRatio (exact_of exact (kind_function K.Apsis axis one other) t)
@@ -223,9 +225,9 @@ pub fn rates()
         ((s.unit * s.unit) * ((s.unit * s.unit) * (s.unit * s.unit))) }
 {}
 
-/// Whatever the exact coordinates at a time, some scene shows them, with two lengths. So over times that fit some
-/// scene shows those of each view.
-pub fn scenes()
+/// States that some scene of whole numbers shows the exact coordinates at a time, together with two given lengths, if
+/// these coordinates are fractions. They are in each checked view at each time that fits it.
+pub fn scenes_exist()
     ensures some { (exact : Leaf → ℤ → Fraction) (t : ℤ)
         → ((l : Leaf) → IsLeaf l → IsFraction (exact l t)) → (one other : Decimal)
         → HasScene exact t one other }

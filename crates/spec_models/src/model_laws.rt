@@ -6,14 +6,17 @@ ghost use Rattle.spec_intervals.specs.Fraction.{Fraction, IsFraction, fraction, 
 ghost use Rattle.spec_models.specs.Ends.{NoMore, in_units, Under, Over};
 ghost use Rattle.spec_models.specs.Models.{Model, model, at, value, IsNear, constant, argument, bulk, coefficient, added, multiplied, opposite, convolved, products_upto, sizes, weighted_sizes, halved, slope, curvature, derivative, raised, lowered, cut, widened, negated, sum_model, difference_model, product_model};
 
-/// The product of two lists of coefficients has, at each argument, the product of their values.
-pub fn products_at()
+/// States that the product of two lists of coefficients has, at each argument p / q, the product of their values.
+/// Values are cleared of fractions: times `q^d` and `q^e` for lists of at most d and e coefficients.
+pub fn products_have_the_products_of_values()
     ensures { (p q : ℤ) (d e : ℕ) (xs ys : List ℤ) → length xs ≤ d → length ys ≤ e
         → at p q (d + e) (convolved xs ys) ≡ at p q d xs *ℤ at p q e ys }
 {}
 
-/// From -1 to 1 a polynomial is at most the magnitudes of its coefficients together.
-pub fn sizes_at()
+/// States bounds of a polynomial at arguments from -1 to 1, by the sum of its coefficients' magnitudes: of its value,
+/// of what halving its coefficients k times or leaving out all but the first n changes, and by its slope of its change
+/// between arguments.
+pub fn polynomials_are_bounded_by_their_coefficients()
     ensures size { (p q : ℤ) (d : ℕ) (xs : List ℤ) → IsArgument p q
         → Within (at p q d xs) (pos (sizes xs) *ℤ power q d) }
     ensures halved { (p q : ℤ) (d k : ℕ) (xs : List ℤ) → IsArgument p q
@@ -26,7 +29,9 @@ pub fn sizes_at()
         (pos (unsigned_abs (p -ℤ o) * slope xs) *ℤ power q d) }
 {}
 
-/// A number near a model stays near where the error grows, and where the unit or the number of coefficients changes.
+/// States that a number near a model, which is within its error of its polynomial at the argument p / q, stays near it
+/// if the error grows, the unit is made coarser (`raised`) or finer (`lowered`), or coefficients after the first n are
+/// cut and added to the error.
 pub fn changes()
     ensures error { (p q : ℤ) → IsArgument p q → (m : Model) (e : ℕ) (r : Fraction) → m.error ≤ e
         → IsNear m p q r → IsNear (model m.coefficients e m.exponent) p q r }
@@ -38,7 +43,9 @@ pub fn changes()
         → IsNear m p q r → IsNear (cut n m) p q r }
 {}
 
-/// A number made of numbers near models, by negation, sum or product, is near the model made of these models.
+/// States that the negation, sum, difference or product of numbers near models, which are within their errors of their
+/// polynomials at p / q, is near the model that the operation makes of them. Sums and differences are of models with
+/// one exponent.
 pub fn operations()
     ensures negated { (p q : ℤ) → IsArgument p q → (m : Model) (r : Fraction) → IsNear m p q r
         → IsNear (negated m) p q (fraction (neg_ℤ r.numerator) r.denominator) }
@@ -52,9 +59,10 @@ pub fn operations()
         → IsNear m p q r → IsNear n p q z → IsNear (product_model m n) p q (fraction_mul r z) }
 {}
 
-/// A number near a model, times a whole number or a power of 2, is near the model that is multiplied so. For powers
-/// of 2 only the exponent changes.
-pub fn multiples()
+/// States that if a number is near a model, within its error at p / q, its product with an integer `c` is near the
+/// model with coefficients times `c` and error times `|c|`, and its product or quotient with `2^k` is near the model
+/// with an exponent k greater or less.
+pub fn multiples_are_near_multiplied_models()
     ensures whole { (p q : ℤ) → IsArgument p q → (c : ℤ) (m : Model) (r : Fraction) → IsNear m p q r
         → IsNear (model (multiplied c m.coefficients) (unsigned_abs c * m.error) m.exponent)
         p q (fraction (c *ℤ r.numerator) r.denominator) }
@@ -66,7 +74,8 @@ pub fn multiples()
         p q (fraction r.numerator (r.denominator * 2 ^ k)) }
 {}
 
-/// A number between two numbers near a model is near it, and so is each other fraction of the same value.
+/// States that a fraction between two numbers near a model, which are within its error of its polynomial at p / q, is
+/// near it too, and so is a fraction that is equal to a number near it, with whatever denominator.
 pub fn betweens()
     ensures between { (m : Model) (p q : ℤ) (a r b : Fraction) → IsFraction r → NoMore a r
         → NoMore r b → IsNear m p q a → IsNear m p q b → IsNear m p q r }
@@ -75,7 +84,8 @@ pub fn betweens()
         → IsNear m p q a → IsNear m p q b }
 {}
 
-/// A number within d of one near a model is near the model widened by as many units as d is at most.
+/// States that if `r` is near a model, within its error at p / q, then a fraction at most `d` away from `r`, on either
+/// side or only below or above, is near the model with an error greater by `e` units, if `d` is at most `e` units.
 pub fn widenings()
     ensures around { (m : Model) (p q : ℤ) (e : ℕ) (r z d : Fraction) → IsArgument p q
         → IsFraction z → IsFraction d → NoMore d (in_units (pos e) m.exponent)
@@ -89,7 +99,9 @@ pub fn widenings()
         → Over d z r → IsNear m p q r → IsNear (widened e m) p q z }
 {}
 
-/// A number is near the model of a constant exactly where it is within the error of it.
+/// States that a fraction is near the model of the constant `a` with error `e`, in units of 2^s, exactly if it lies
+/// from `a - e` to `a + e`; that it is then near the constant `b` with the error `|a - b| + e`; and that the product of
+/// two fractions, each near a constant, is near the product of these constants.
 pub fn constants()
     ensures near { (p q : ℤ) → IsArgument p q → (a : ℤ) (e : ℕ) (s : ℤ) (r : Fraction)
         → IsFraction r → NoMore (in_units (a -ℤ pos e) s) r → NoMore r (in_units (a +ℤ pos e) s)
@@ -107,8 +119,9 @@ pub fn constants()
         p q (fraction_mul r z) }
 {}
 
-/// The argument p / q is near its own model; p / q times a number is near the model with coefficients moved by one
-/// place. (a + b p) / c is near x + y p / q where a / c is near x, and b q / c near y.
+/// States that the argument p / q is near its own model, and that if `r` is near a model at p / q, then p / q times `r`
+/// is near the model with coefficients moved by one place. `(a + b p) / c` is near `x + y p / q` if `a / c` is near x
+/// and `b q / c` near y.
 pub fn arguments()
     ensures itself { (p q : ℤ) → IsArgument p q → IsNear argument p q (fraction p (unsigned_abs q)) }
     ensures times { (p q : ℤ) → IsArgument p q → (xs : List ℤ) (e : ℕ) (s : ℤ) (r : Fraction)
@@ -120,25 +133,27 @@ pub fn arguments()
         → IsNear (model (x ∷ y ∷ []) (e + f) s) p q (fraction (a +ℤ b *ℤ p) c) }
 {}
 
-/// A number near a model is at most the model's bulk in magnitude.
-pub fn bulks()
+/// States that a number near a model, at any argument from -1 to 1, is at most the model's bulk in magnitude: the sum
+/// of the magnitudes of its coefficients and its error, in its unit.
+pub fn numbers_near_a_model_are_at_most_its_bulk()
     ensures above { (p q : ℤ) → IsArgument p q → (m : Model) (r : Fraction) → IsNear m p q r
         → NoMore (in_units (neg_ℤ (pos (bulk m))) m.exponent) r }
     ensures below { (p q : ℤ) → IsArgument p q → (m : Model) (r : Fraction) → IsNear m p q r
         → NoMore r (in_units (pos (bulk m)) m.exponent) }
 {}
 
-/// A number near a model at one argument is near it at another, once it is widened by the slope times the distance.
-pub fn slopes()
+/// States that a number near a model at the argument p / q is near it at o / q, once its error is widened by e units,
+/// if e is at least its slope times `|p - o| / q`.
+pub fn models_are_near_at_other_arguments_by_their_slope()
     ensures { (p q : ℤ) → IsArgument p q → (m : Model) (o : ℤ) (e : ℕ) (r : Fraction)
         → IsArgument o q → pos (unsigned_abs (p -ℤ o) * slope m.coefficients) ≤ℤ (pos e *ℤ q)
         → IsNear m p q r → IsNear (widened e m) o q r }
 {}
 
-/// A polynomial is at most half of its curvature times the square of the distance from its tangent. So a number near a model
-/// at one argument is near it at another, o / q, where the derivative is at most so many units, once it is widened by
-/// what the tangent and the curvature tell.
-pub fn curvatures()
+/// States that a polynomial is within half its curvature times the squared distance of its tangent at o / q. So a
+/// model, if its derivative there is at most `steepness` units, stays near when widened by what both allow. Shows how
+/// curvature adds up.
+pub fn models_are_near_at_other_arguments_by_their_curvature()
     ensures tangent { (p o q : ℤ) (d : ℕ) (xs : List ℤ) → length xs ≤ d
         → IsArgument p q → IsArgument o q
         → Within (pos 2 *ℤ ((at p q d xs -ℤ at o q d xs) *ℤ (q *ℤ q)
@@ -158,10 +173,10 @@ pub fn curvatures()
         ≡ curvature (take i xs) + i * (i - 1) * unsigned_abs (coefficient xs i) }
 {}
 
-/// The polynomial's own value is near the model. Where the value is near a second model, each number near the first
-/// is near the second, widened by the first's error. The value is a + p / q times the value of the coefficients after
-/// the first, a.
-pub fn values()
+/// States that the value of a model's polynomial is near the model, and that what is near the model is near a second
+/// model of the same unit that its value is near, widened by its error. `none` and `next` compute a value from its last
+/// coefficient on.
+pub fn values_of_models_are_near_them()
     ensures itself { (p q : ℤ) → IsArgument p q → (m : Model) → IsNear m p q (value m p q) }
     ensures others { (p q : ℤ) → IsArgument p q → (m n : Model) (r : Fraction)
         → n.exponent ≡ m.exponent → IsNear m p q r → IsNear n p q (value m p q)
@@ -174,16 +189,19 @@ pub fn values()
         → IsNear n p q (value (model (a ∷ xs) e s) p q) }
 {}
 
-/// The derivative's value is the value of the coefficients after the first, and p / q times that of their derivative.
-pub fn derivatives()
+/// States the rule by which a derivative's value is computed: the derivative of `x + t f(t)` is `f(t) + t f'(t)`. A
+/// model that is near the latter at the argument t = p / q is near the derivative of the coefficients `x ∷ xs` there,
+/// if `xs` are those of `f`.
+pub fn derivatives_of_longer_lists_are_near()
     ensures { (p q : ℤ) → IsArgument p q → (x : ℤ) (xs : List ℤ) (n : Model) (e : ℕ) (s : ℤ)
         → IsNear n p q (fraction_add (value (model xs e s) p q)
         (fraction_mul (fraction p (unsigned_abs q)) (value (model (derivative xs) e s) p q)))
         → IsNear n p q (value (model (derivative (x ∷ xs)) e s) p q) }
 {}
 
-/// The coefficient at place k of lists that are added, multiplied or made otherwise.
-pub fn coefficients()
+/// States which coefficient stands at place k of a sum, a multiple, a negation, a list halved n times, a product, a
+/// prefix and a rest of lists of coefficients. Places past the end of a list hold 0.
+pub fn operations_on_lists_give_each_coefficient()
     ensures added { (xs ys : List ℤ) (k : ℕ)
         → coefficient (added xs ys) k ≡ coefficient xs k +ℤ coefficient ys k }
     ensures multiplied { (c : ℤ) (xs : List ℤ) (k : ℕ)
@@ -200,7 +218,9 @@ pub fn coefficients()
         → coefficient (drop n xs) k ≡ coefficient xs (n + k) }
 {}
 
-/// The lengths of lists of coefficients, and when two lists are the same.
+/// States how long sums, multiples, negations, halved lists and products of lists of coefficients are; that lists of
+/// one length with equal coefficients are equal; and that models with equal coefficients, error and exponent have the
+/// same numbers near them.
 pub fn lists()
     ensures added { (xs ys : List ℤ) (d : ℕ) → length xs ≤ d → length ys ≤ d
         → length (added xs ys) ≤ d }
@@ -218,8 +238,9 @@ pub fn lists()
         → IsNear m p q r → IsNear (model ys m.error m.exponent) p q r }
 {}
 
-/// The magnitudes of coefficients, and their magnitudes times their places, with one coefficient more.
-pub fn sizes_of_parts()
+/// States how the sum of the magnitudes of coefficients grows by one coefficient more, in a prefix and in the rest
+/// after it, that prefix and rest make up the whole sum, and how the sum of magnitudes times places grows.
+pub fn sums_of_magnitudes_grow_by_one_coefficient()
     ensures take { (xs : List ℤ) (i : ℕ)
         → sizes (take (suc i) xs) ≡ sizes (take i xs) + unsigned_abs (coefficient xs i) }
     ensures drop { (xs : List ℤ) (i : ℕ)

@@ -15,27 +15,28 @@ use crate::query::{Query, Span};
 use crate::refusal::Refusal;
 use crate::statuses::{NOT_WRITTEN, REPORTED};
 
-/// Where there is no cause against a search, the windows of its leaves are those of the query's events.
+/// States that a search over a checked ephemeris, against which no cause stands, finds all events of its query: the
+/// windows of its leaves are those of the events in the span.
 pub fn searches_find_the_events()
     ensures { (q : Query) (e : Ephemeris) (span : Span) → IsEphemeris e → 0 < e.blocks → IsQuery q
         → cause_of q e span ≡ None → AreFound (search q e) span (leaves_in (search q e) span) }
 {}
 
-/// Where the span holds a time, the windows of a polynomial's search are those of the times at which it passes 0 in a
-/// wanted direction.
+/// States that the search of a polynomial within its limits finds each time of a span at which it passes 0 in a wanted
+/// direction: its windows are those of these times. The span has to hold at least one time.
 pub fn polynomials_pass_0_in_their_windows()
     ensures { (ask : ScalarAsk) → IsScalarWithinLimits ask → ask.from <ℤ ask.to
         → ArePassings ask (scalar_windows ask) }
 {}
 
-/// No cause has a status of a run that has a text.
-pub fn causes_are_no_texts()
+/// States that no cause for which a run writes no text has an exit status of a run that has one: neither 0 nor 5.
+pub fn refusals_have_statuses_of_their_own()
     ensures reported { (refusal : Refusal) → status_of refusal ≢ REPORTED }
     ensures unwritten { (refusal : Refusal) → status_of refusal ≢ NOT_WRITTEN }
 {}
 
-/// A certificate may cut a node further than the search does, whatever its verdict. It may cut each node wider than a
-/// tick that lies above the deepest ones or has a border inside, and no other.
+/// States which nodes a certificate may cut, whatever their verdict: those wider than a tick that lie above the
+/// greatest depth or have a border of granules inside, and no others.
 pub fn nodes_may_be_cut_further()
     ensures above { (s : Search) (n : Node) → pos 1 <ℤ (n.b -ℤ n.a) → n.depth < s.depth
         → (cutting s).may n ≡ true }

@@ -27,8 +27,8 @@ pub struct Span {
     pub upto: i64,
 }
 
-/// Returns the search of a generated text: the conjunctions of Mercury and Venus seen from the Earth, with every
-/// option at its default.
+/// Returns the search that `gen` makes in its text: conjunctions of Mercury and Venus, seen from the Earth along
+/// equatorial axes, in any direction, with windows of one tick, depth 40 and cuts in the middle.
 pub fn conjunctions() -> Query
     ensures { result ≡ conjunctions }
 {
@@ -51,7 +51,8 @@ pub fn conjunctions() -> Query
     }
 }
 
-/// Returns the query that the words of `find` ask for.
+/// Returns the query that the words of a search ask for: its event, width, depth and cut rule, without its span, its
+/// files and its workers.
 pub fn query_of(find: &FindAsk) -> Query
     ensures { result ≡ query_of find.now }
 {

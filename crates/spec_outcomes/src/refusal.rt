@@ -35,7 +35,8 @@ impl Refusal {
     ghost use Rattle.std.specs.Prelude.{◌≡◌};
     ghost use Rattle.spec_outcomes.specs.Refusals.{of_fault, status_of};
 
-    /// Returns the refusal of a run for a fault of its event, or out of memory where there is none.
+    /// Returns the refusal of a run for this fault of its event; `None` stands for out of memory, the only other cause
+    /// in making an event.
     pub fn of_fault(fault: Option<EventFault>) -> Refusal
         ensures { result ≡ of_fault fault }
     {
@@ -45,7 +46,8 @@ impl Refusal {
         }
     }
 
-    /// Returns the status of a run that is refused.
+    /// Returns the exit status of a run that is refused for this cause: from 2 to 10, but not 5, the status of texts
+    /// that are not written whole.
     pub fn status(&self) -> u8
         ensures { result ≡ status_of self.now }
     {
@@ -68,7 +70,8 @@ impl From<WordFault> for Refusal {
 
     ghost from_gives = { λ fault refusal. refusal ≡ of_words fault };
 
-    // Returns the refusal of a run for a fault of its command line, or out of memory.
+    // Converts a fault of the command line to the refusal of the run, with the fault's number and its option if it has
+    // one, or to out of memory.
     fn from(fault: WordFault) -> Self {
         match fault {
             WordFault::NoCommand => Refusal::Words {
@@ -98,7 +101,7 @@ impl From<AllocError> for Refusal {
 
     ghost from_gives = { λ _ refusal. refusal ≡ Memory };
 
-    // Returns out of memory.
+    // Converts a failed allocation to the refusal of the run that is out of memory.
     fn from(_: AllocError) -> Self {
         Refusal::Memory
     }

@@ -4,8 +4,9 @@ ghost use Rattle.spec_intervals.specs.declared.signs.Sign.TheVariants.{No, Open,
 ghost use Rattle.spec_requests.specs.declared.request.Relation.TheVariants.{AtLeast, Less, Outside, Within};
 ghost use Rattle.spec_outcomes.specs.Sets.{relation_sign};
 
-/// A time between two references is within them; one that is at least the greater is outside, and so is one below the lesser.
-pub fn signs_of_relations()
+/// Works out whether a relation holds at a time, from whether the value is at least the first and at least the second
+/// reference: `Within` is at least the first and below the second, `Outside` is below the first or at least the second.
+pub fn relations_compare_with_one_reference_or_two()
     ensures at_least { relation_sign AtLeast Yes Yes ≡ Yes }
     ensures less { relation_sign Less No No ≡ Yes }
     ensures between { relation_sign Within Yes No ≡ Yes }
@@ -15,8 +16,9 @@ pub fn signs_of_relations()
     ensures not_outside { relation_sign Outside Yes No ≡ No }
 {}
 
-/// Where one reference leaves a time open, the other may still decide it.
-pub fn signs_of_open_times()
+/// Works out whether a relation holds at a time at which it is open whether the value is at least the first reference:
+/// the second may still decide `Within` and `Outside`; otherwise the relation is open.
+pub fn the_second_reference_may_decide_open_times()
     ensures less { relation_sign Less Open Open ≡ Open }
     ensures within { relation_sign Within Open Yes ≡ No }
     ensures not_within { relation_sign Within Open No ≡ Open }

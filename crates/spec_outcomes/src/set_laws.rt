@@ -17,8 +17,8 @@ ghost use Rattle.spec_outcomes.specs.Sets.{IsRelated, IsSetQuery, other_query, r
 use crate::query::{Query, Span};
 use crate::refusal::Refusal;
 
-/// Where there is no cause against the search about either reference, each sure time of a span has the relation, and each
-/// time of it that has the relation is possible.
+/// States that each sure time of a set has the relation and each time with the relation is possible, over a checked
+/// ephemeris, if no cause stands against the search about either reference.
 pub fn sets_meet_their_relation()
     ensures { (relation : Relation) (q r : Query) (e : Ephemeris) (span : Span)
         → IsEphemeris e → 0 < e.blocks → IsSetQuery q → IsSetQuery r
@@ -28,17 +28,18 @@ pub fn sets_meet_their_relation()
         (possible_spans (related_signs relation (search q e) (search r e) span) span.from span.upto) }
 {}
 
-/// Words within their limits ask for a query of sets, and so does the query about the second reference.
-pub fn queries_of_sets()
+/// States that the words of `set` within their limits ask for a query that has sets, and that the same query about the
+/// second reference has them too.
+pub fn words_of_sets_ask_for_queries_with_sets()
     ensures asked { (find : FindAsk) (ref2 : Option Decimal) (relation : Relation)
         → IsSetWithinLimits find ref2 relation → IsSetQuery (query_of find) }
     ensures other { (q : Query) (ref2 : Option Decimal) → IsSetQuery q
         → IsSetQuery (other_query q ref2) }
 {}
 
-/// The causes against a set, in their order: the span, the event about the first reference and about the second, then
-/// the leaves of the search about the first and about the second.
-pub fn causes_against_sets()
+/// States for which cause a set is refused if several stand against it: the span first, then a fault of the event about
+/// the first and about the second reference, then too many leaves of either search.
+pub fn sets_are_refused_for_their_first_cause()
     ensures outside { (relation : Relation) (q r : Query) (e : Ephemeris) (span : Span)
         → is_within span e ≡ false
         → signs_found relation q r e span ≡ Err (Outside span (whole_span e)) }

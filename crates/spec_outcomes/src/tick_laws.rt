@@ -12,7 +12,8 @@ ghost use Rattle.spec_outcomes.specs.Outcomes.{report_by, report_of};
 ghost use Rattle.spec_outcomes.specs.Queries.{IsQuery, query_of};
 ghost use Rattle.spec_outcomes.specs.Sets.{IsSetQuery, set_of};
 
-/// A span that does not lie in the span of the files is refused, and both are named in ticks.
+/// States that a search for windows, a certificate or a set is refused if the span that is asked for does not lie in
+/// that of the files. The refusal names both spans in ticks.
 pub fn spans_are_compared_in_ticks()
     ensures find { (find : FindAsk) (e : Ephemeris)
         → lies_in (asked_in_ticks find e) (files_in_ticks find e) ≡ false
@@ -25,7 +26,8 @@ pub fn spans_are_compared_in_ticks()
         → set_of find ref2 relation e ≡ Err (Outside (asked_in_ticks find e) (files_in_ticks find e)) }
 {}
 
-/// A report is of the ticks of the span, and of positions at these ticks.
+/// States that if windows, a certificate or a set are reported, they are right for the ticks of the span that was asked
+/// for: they speak of positions at these very ticks, though the files count seconds.
 pub fn searches_count_ticks()
     ensures find { (find : FindAsk) (e : Ephemeris) (text : List ℕ)
         → IsEphemeris e → IsInSeconds e → IsTick find.tick → 0 < e.blocks

@@ -13,15 +13,17 @@ ghost use Rattle.spec_trees.specs.Examples.{window};
 ghost use Rattle.spec_output.specs.Report.{axis_of_kind, end_line, generation, query_line, query_text, relation_text, report, request_line, scalar_report, second_name, set_lines, set_report, span_text, ticks_text, turns_text, verification, verified_line};
 ghost use Rattle.spec_output.specs.Summary.{column_lines, column_name};
 
-/// Only a coordinate has an axis, and only kinds of two bodies have a second body.
-pub fn dashes_stand_for_nothing()
+/// Works out what a report prints for an event's axis and second body: their name, as `y` or `venus`, or `-` if the
+/// kind has no axis or no second body is named.
+pub fn absent_values_are_printed_as_dashes()
     ensures axis { axis_of_kind Coord 1 ≡ codes "y" }
     ensures no_axis { axis_of_kind Apsis 1 ≡ codes "-" }
     ensures second { second_name (Some Venus) ≡ codes "venus" }
     ensures no_second { second_name None ≡ codes "-" }
 {}
 
-/// A request is one line. What a certificate holds is counted in leaves.
+/// Works out the text of a request without its span, which is one line that names every option, and the line that
+/// reports a checked certificate of 4 leaves.
 pub fn requests_are_printed()
     ensures windows { query_text (codes "FIND ") (turns_text Any) (search_in (codes "a"))
         ≡ codes "FIND coord target mercury second - observer ssb frame eq axis x values 0 dir any width "
@@ -29,13 +31,15 @@ pub fn requests_are_printed()
     ensures verified { verified_line 4 ≡ codes "VERIFIED leaves " ++ decimal 4 ++ codes "\n" }
 {}
 
-/// The ticks of a second are printed where there is more than one.
+/// Works out what the line of a request says of ticks: nothing if a second has one tick, else ` tick ` and their
+/// number.
 pub fn ticks_are_printed()
     ensures seconds { ticks_text 1 ≡ [] }
     ensures milliseconds { ticks_text 1_000 ≡ codes " tick " ++ decimal 1_000 }
 {}
 
-/// Certain windows of both turns are counted together.
+/// Works out the last line of a report with a rise, an undecided window and a fall: certain windows are counted
+/// together, 2 here, whether they rise or fall, and undecided ones apart, 1 here.
 pub fn windows_are_counted()
     ensures { end_line (record { first = pos 1; last = pos 1; holds = Certain Rise }
         ∷ record { first = pos 2; last = pos 5; holds = Undecided }
@@ -43,8 +47,9 @@ pub fn windows_are_counted()
         ≡ codes "END certain " ++ decimal 2 ++ (codes " undecided " ++ decimal 1 ++ codes "\n") }
 {}
 
-/// A report is the line of its request, a line for each window and one with their counts; that of a certificate has a line
-/// more, with the number of its leaves. Of a generated text the size is printed, and the counts.
+/// Works out whole reports, with two windows and with none: the line of the request, a line for each window, and the
+/// counts. That of a certificate has one line more, with its number of leaves; that of a generated text starts with its
+/// blocks, seed and size.
 pub fn reports_end_with_their_counts()
     ensures windows { report (search_in (codes "a")) (pos 1_339_000) (pos 1_339_400)
         (window (pos 1_339_200) (pos 1_339_200) (Certain Rise) ∷ window (pos 1_339_300) (pos 1_339_400) Undecided ∷ [])
@@ -62,8 +67,8 @@ pub fn reports_end_with_their_counts()
         ≡ codes "GEN 405 blocks 2 seed 9 bytes 50\nEND certain 1 undecided 0\n" }
 {}
 
-/// The times at which Mercury's x is below 0, about the one at which it rises, in windows of a minute: the first line names
-/// the relation, and the spans of sure times come before those of possible ones.
+/// Works out the report of a set of times: its first line names the relation in place of a direction, the sure spans
+/// come before the possible ones, and the counts of both come last.
 pub fn sets_are_printed()
     ensures line { query_text (codes "SET ") (relation_text Less) (record (search_in (codes "a")) {
       width = pos 60;
@@ -79,7 +84,8 @@ pub fn sets_are_printed()
         ++ codes "\n" ++ set_lines 1 surely perhaps }
 {}
 
-/// The times at which t^2 - 100 passes 0: they are printed as whole numbers.
+/// Works out the report of the times from -50 to 50 at which t^2 - 100 passes 0, a fall at -9 and a rise at 10. Its
+/// times are printed as whole numbers, not as calendar texts.
 pub fn scalars_are_printed()
     ensures { scalar_report (record {
       p = pos 1;
@@ -97,8 +103,8 @@ pub fn scalars_are_printed()
         ++ codes "END certain 2 undecided 0\n" }
 {}
 
-/// The names of columns: the planets, the Moon, the Sun, nutations and librations. A column past them has its number,
-/// and an absent one no line.
+/// Works out the names of columns in a summary, by their numbers: a body's name for 1 to 11, `nutations` for 12,
+/// `librations` for 13, and `column14` and `column15` for the two that are not read. An absent column has no line.
 pub fn columns_have_names()
     ensures first { column_name 1 ≡ codes "mercury" }
     ensures moon { column_name 10 ≡ codes "moon" }

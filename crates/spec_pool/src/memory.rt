@@ -8,7 +8,7 @@ use thiserror::Error;
 pub struct Memory;
 
 impl From<AllocError> for Memory {
-    // Returns out of memory.
+    // Converts a failed allocation to `Memory`, whatever its size was.
     fn from(_: AllocError) -> Self {
         Memory
     }

@@ -18,17 +18,16 @@ ghost use Rattle.spec_requests.specs.declared.request.Request.{Request};
 ghost use Rattle.spec_requests.specs.declared.tables.CommandName.{CommandName};
 ghost use Rattle.spec_requests.specs.declared.tables.TheConstants.{FIND_OPTIONS, GEN_OPTIONS, GEN_WORDS, SCALAR_OPTIONS, SET_OPTIONS};
 
-/// What words ask for lies in its limits. A search can be asked of an ephemeris: it has a second body exactly where the
-/// kind takes one, looks at no barycentre of the solar system, and its tick, width, depth and workers lie in their limits.
-/// A set is of such a search, for all turns of a kind that has sets, with a second reference exactly where the relation is
-/// to two. The numbers, times and limits of a scalar are those that a polynomial and its search may have.
+/// States that whatever words are read as a request, it keeps to the limits of requests: a search has a second body
+/// exactly if its kind takes one, no target is the barycentre of the solar system, and widths, depths, workers, times
+/// and references are in range.
 pub fn requests_keep_to_limits()
     ensures { (words : List (List ℕ)) (request : Request) → request_of words ≡ Ok request
         → KeepsToLimits request }
 {}
 
-/// Each command, option, kind, body, frame, axis, direction, relation, rule of cutting, layout and tick has a name that is
-/// read as it.
+/// States that the name of each command, option, kind, body, frame, axis, direction, relation, cut rule, layout and
+/// tick is read back as the thing that it names.
 pub fn names_are_read_back()
     ensures commands { (command : CommandName) → command_of (command_name command) ≡ Some command }
     ensures options { (option : Named) → option_of (option_name option) ≡ Some option }
@@ -44,8 +43,8 @@ pub fn names_are_read_back()
     ensures milliseconds { tick_of_word (decimal 1_000) ≡ Some 1_000 }
 {}
 
-/// A word is read as a command, option, kind, body, frame, axis, direction, relation, rule of cutting, layout or tick
-/// only where it is its name.
+/// States that a word that is read as a command, option, kind, body, frame, axis, direction, relation, cut rule, layout
+/// or tick is the name of that thing. So no two words stand for one thing.
 pub fn words_stand_for_one_thing()
     ensures commands { (word : List ℕ) (command : CommandName) → command_of word ≡ Some command
         → word ≡ command_name command }
@@ -68,10 +67,10 @@ pub fn words_stand_for_one_thing()
         → word ≡ decimal tick }
 {}
 
-/// The order in which options are looked at: the first that is bad is the one whose fault is reported. The words of `gen`
-/// come before its option, and the certificate after all options of its search. The relation and the second reference stand
-/// where a search has its direction, and the polynomial comes first.
-pub fn options_in_their_order()
+/// States the order in which the options of each command are looked at, of which the first bad one is reported.
+/// `verify` looks at the certificate after all options of its search, `gen` at its words before its options, and
+/// `scalar` at the polynomial first.
+pub fn options_are_looked_at_in_a_fixed_order()
     ensures find { FIND_OPTIONS ≡ opt.Kind ∷ opt.Target ∷ opt.Second ∷ opt.Observer ∷ opt.Frame
         ∷ opt.Axis ∷ opt.Ref ∷ opt.Radius1 ∷ opt.Radius2 ∷ opt.Dir ∷ opt.Tick ∷ opt.From ∷ opt.To
         ∷ opt.Width ∷ opt.Depth ∷ opt.Workers ∷ opt.Cut ∷ [] }

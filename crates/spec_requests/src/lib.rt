@@ -11,7 +11,8 @@ mod tables;
 mod text;
 
 pub use laws::{
-    names_are_read_back, options_in_their_order, requests_keep_to_limits, words_stand_for_one_thing,
+    names_are_read_back, options_are_looked_at_in_a_fixed_order, requests_keep_to_limits,
+    words_stand_for_one_thing,
 };
 pub use limits::{
     DEFAULT_DEPTH, DEFAULT_TICK, DEFAULT_WIDTH, DEFAULT_WORKERS, MAX_DEPTH, MAX_DIGITS_OF_A_COUNT,
@@ -23,9 +24,11 @@ pub use names::{
 };
 pub use request::{FindAsk, Named, Relation, Request, ScalarAsk, WordFault};
 pub use request_examples::{
-    faults_of_certificates, faults_of_scalars, faults_of_searches, faults_of_sets, faults_of_words,
-    requests_of_certificates, requests_of_scalars, requests_of_sets, requests_of_words,
-    searches_of_words,
+    bad_command_lines_have_faults, bad_names_of_certificates_are_reported_last,
+    cert_and_verify_are_read_as_searches, check_and_gen_are_read_as_requests,
+    find_is_read_as_a_search, scalar_is_read_as_a_polynomial_and_a_span,
+    set_is_read_as_a_search_with_a_relation, the_first_bad_option_of_find_is_reported,
+    the_first_bad_option_of_scalar_is_reported, the_first_bad_option_of_set_is_reported,
 };
 pub use tables::{
     AXES, BODIES, COMMANDS, CUTS, CommandName, DIRS, FIND_OPTIONS, FRAMES, GEN_OPTIONS, GEN_WORDS,

@@ -9,49 +9,54 @@ use spec_ephemeris::Body;
 use spec_events::Dir;
 use spec_trees::CutRule;
 
-/// Returns the name of a command.
+/// Returns the name of a command as the first word of a command line writes it: `find`, `cert`, `verify`, `check`,
+/// `gen`, `set` or `scalar`.
 pub fn command_name(command: CommandName) -> &'static str
     ensures { result.now ≡ command_name command }
 {
     COMMANDS[command as usize].0
 }
 
-/// Returns the name of a body.
+/// Returns the name of a body as command lines and reports write it, as `moon`, or `ssb` for the barycentre of the
+/// solar system.
 pub fn body_name(body: Body) -> &'static str
     ensures { result.now ≡ body_name body }
 {
     BODIES[body as usize].0
 }
 
-/// Returns the name of a frame.
+/// Returns the name of a frame as command lines and reports write it: `eq` for equatorial axes, `ecl` for ecliptic
+/// ones.
 pub fn frame_name(frame: Frame) -> &'static str
     ensures { result.now ≡ frame_name frame }
 {
     FRAMES[frame as usize].0
 }
 
-/// Returns the name of the turns that are wanted: `any`, `rise` or `fall`.
+/// Returns the name of the turns that a search wants, as command lines and reports write it: `any`, `rise` or `fall`.
 pub fn dir_name(dir: Dir) -> &'static str
     ensures { result.now ≡ dir_name dir }
 {
     DIRS[dir as usize].0
 }
 
-/// Returns the name of a rule by which nodes are cut.
+/// Returns the name of the rule by which nodes are cut, as command lines and reports write it: `half` or `third`.
 pub fn cut_name(cut: CutRule) -> &'static str
     ensures { result.now ≡ cut_name cut }
 {
     CUTS[cut as usize].0
 }
 
-/// Returns the name of a relation.
+/// Returns the name of a relation of a set, as command lines and reports write it: `less`, `atleast`, `within` or
+/// `outside`.
 pub fn relation_name(relation: Relation) -> &'static str
     ensures { result.now ≡ relation_name relation }
 {
     RELATIONS[relation as usize].0
 }
 
-/// Returns the name of an axis: x, y and z are 0, 1 and 2. Any other number has the empty name.
+/// Returns the name of an axis as command lines and reports write it: `x`, `y` or `z` for 0, 1 or 2, and the empty name
+/// for any other number.
 pub fn axis_name(axis: u8) -> &'static str
     ensures { result.now ≡ axis_name axis }
 {
@@ -66,7 +71,8 @@ pub fn axis_name(axis: u8) -> &'static str
     }
 }
 
-/// Returns the name of an option, before which two dashes stand, or of a word of `gen`.
+/// Returns the name of an option without its two dashes, or that of one of the words of `gen`: `layout`, `blocks` or
+/// `seed`.
 pub fn option_name(option: Named) -> &'static str
     ensures { result.now ≡ option_name option }
 {

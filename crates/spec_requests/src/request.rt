@@ -32,8 +32,8 @@ pub struct FindAsk {
     pub files: FileNames,
 }
 
-/// A relation that a function has to one reference or two: the times at which it is below the reference, or at least the
-/// reference; at least the first and below the second; below the first or at least the second.
+/// A relation that a function has to one reference or two: the times at which it is below the reference, or at least
+/// the reference; at least the first and below the second; below the first or at least the second.
 #[derive(Clone, Copy, PartialEq, Eq)]
 pub enum Relation {
     Less,

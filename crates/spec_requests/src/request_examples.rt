@@ -7,16 +7,18 @@ ghost use Rattle.spec_requests.specs.declared.request.WordFault.TheVariants.{NoC
 ghost use Rattle.spec_requests.specs.declared.request.Request.TheVariants.{Find, Cert, Verify, Check, Gen, Set, Scalar};
 ghost use Rattle.spec_requests.specs.declared.request.Relation.TheVariants as relation;
 
-/// Files are named in any number, also after `--`. A generated text is asked for by three words.
-pub fn requests_of_words()
+/// Works out the requests of two command lines: `check a -- -b` names the files `a` and `-b`, and `gen 405 3 7` asks
+/// for 3 blocks from the seed 7 with one worker.
+pub fn check_and_gen_are_read_as_requests()
     ensures check { request_of (codes "check" ∷ codes "a" ∷ codes "--" ∷ codes "-b" ∷ [])
         ≡ Ok (Check (codes "a" ∷ codes "-b" ∷ [])) }
     ensures generated { request_of (codes "gen" ∷ codes "405" ∷ codes "3" ∷ codes "7" ∷ [])
         ≡ Ok (Gen 3 7 1) }
 {}
 
-/// Command lines that are refused: no word, another command, no file, too many blocks.
-pub fn faults_of_words()
+/// Works out the faults of four command lines: one without a word, one with the unknown command `search`, `check`
+/// without a file, and `gen` with 41 blocks, one too many.
+pub fn bad_command_lines_have_faults()
     ensures no_word { request_of [] ≡ Err NoCommand }
     ensures other { request_of (codes "search" ∷ codes "a" ∷ []) ≡ Err UnknownCommand }
     ensures no_file { request_of (codes "check" ∷ []) ≡ Err Words }
@@ -24,8 +26,9 @@ pub fn faults_of_words()
         ≡ Err (BadValue opt.Blocks) }
 {}
 
-/// What is left out has its default, and an option may stand behind a file. A whole number counts seconds at every tick.
-pub fn searches_of_words()
+/// Works out the requests of `find` command lines: an option that is left out has its default, and an option may stand
+/// after a file. With 1,000 ticks a second the whole number -5 still counts seconds, and is -5,000 ticks.
+pub fn find_is_read_as_a_search()
     ensures defaults { request_of (with_search (codes "a" ∷ []))
         ≡ Ok (Find (search_in (codes "a"))) }
     ensures milliseconds { request_of (with_search (codes "--tick=1000" ∷ codes "--from=-5"
@@ -38,10 +41,10 @@ pub fn searches_of_words()
         ≡ Ok (Find (search_in (codes "a"))) }
 {}
 
-/// Of two bad options the first is reported: no target comes before a rule of cutting that does not exist. A coordinate is
-/// of one body, a date has to be in the calendar, and 64 workers are the most. A second has 1 or 1,000 ticks, and a time
-/// no fraction where it has one.
-pub fn faults_of_searches()
+/// Works out which option of `find` is reported as bad: the first in the order of options. Bad are a missing target, a
+/// second body for a coordinate, February 30, 65 workers, a tick of 10, a fraction of a second without milliseconds,
+/// and an empty cut rule.
+pub fn the_first_bad_option_of_find_is_reported()
     ensures first { request_of (codes "find" ∷ codes "--kind" ∷ codes "coord" ∷ codes "--cut" ∷ codes "x"
         ∷ codes "a" ∷ []) ≡ Err (BadValue opt.Target) }
     ensures second { request_of (with_search (codes "--second" ∷ codes "venus" ∷ codes "a" ∷ []))
@@ -61,17 +64,18 @@ pub fn faults_of_searches()
         ≡ Err (BadValue opt.Cut) }
 {}
 
-/// A certificate is asked for as a search is. It is checked by the name of its file, which may be a dash.
-pub fn requests_of_certificates()
+/// Works out the requests of `cert`, which has the words of a search, and of `verify`, which has the name of the
+/// certificate's file too; that may be a dash.
+pub fn cert_and_verify_are_read_as_searches()
     ensures written { request_of (search_words (codes "cert") (codes "a" ∷ []))
         ≡ Ok (Cert (search_in (codes "a"))) }
     ensures checked { request_of (search_words (codes "verify") (codes "--cert" ∷ codes "-"
         ∷ codes "a" ∷ [])) ≡ Ok (Verify (search_in (codes "a")) (codes "-")) }
 {}
 
-/// A certificate that is to be checked has to be named, and its fault comes after those of the search. No other
-/// command takes its name.
-pub fn faults_of_certificates()
+/// Works out the faults of `verify` if the certificate has no name or an empty one: they are reported after those of
+/// the search's options. `cert` and `find` do not take the option `--cert`, and refuse the words.
+pub fn bad_names_of_certificates_are_reported_last()
     ensures unnamed { request_of (search_words (codes "verify") (codes "a" ∷ []))
         ≡ Err (BadValue opt.Cert) }
     ensures empty { request_of (search_words (codes "verify") (codes "--cert=" ∷ codes "a" ∷ []))
@@ -83,9 +87,9 @@ pub fn faults_of_certificates()
     ensures found { request_of (with_search (codes "--cert=c" ∷ codes "a" ∷ [])) ≡ Err Words }
 {}
 
-/// A set is asked for as a search is, with a relation in place of a direction. Both references are kept as they are given,
-/// and the first is 0 where it is left out.
-pub fn requests_of_sets()
+/// Works out the requests of `set`: a search with a relation in place of a direction. The references are kept as texts
+/// as they are given; the first is 0 if it is left out.
+pub fn set_is_read_as_a_search_with_a_relation()
     ensures below { request_of (set_words (codes "less") (codes "a" ∷ []))
         ≡ Ok (Set (search_in (codes "a")) None relation.Less) }
     ensures between { request_of (set_words (codes "within") (codes "--ref=-100.5" ∷ codes "--ref2"
@@ -95,9 +99,10 @@ pub fn requests_of_sets()
         ≡ Ok (set_between relation.Outside nought (codes "0,100.5")) }
 {}
 
-/// A kind without sets is a bad kind, also where no target is named. A relation has to be there, to two references only for
-/// a kind with a reference, and the second reference exactly with such a relation. A set has no direction.
-pub fn faults_of_sets()
+/// Works out which option of `set` is reported as bad: a kind without sets, a missing relation, a relation to two
+/// references for a kind without any, and a second reference that the relation does not take, or lacks. `set` takes no
+/// direction.
+pub fn the_first_bad_option_of_set_is_reported()
     ensures kind { request_of (codes "set" ∷ codes "--kind" ∷ codes "conj" ∷ codes "--relation"
         ∷ codes "less" ∷ codes "a" ∷ []) ≡ Err (BadValue opt.Kind) }
     ensures unnamed { request_of (search_words (codes "set") (codes "--ref2=x" ∷ codes "a" ∷ []))
@@ -113,17 +118,18 @@ pub fn faults_of_sets()
         ≡ Err Words }
 {}
 
-/// A scalar is asked for by its polynomial and the ends of its span, which are not compared here.
-pub fn requests_of_scalars()
+/// Works out the requests of `scalar` for the polynomial `1,0,-100`, which is t^2 - 100, from -50 to 50 and, with depth
+/// 0, from 50 to -50: the ends of a span are not compared here.
+pub fn scalar_is_read_as_a_polynomial_and_a_span()
     ensures forward { request_of (scalar_words (codes "1,0,-100") (codes "--from=-50" ∷ codes "--to"
         ∷ codes "50" ∷ [])) ≡ Ok (Scalar (scalar_in 40 (neg_ℤ (pos 50)) (pos 50))) }
     ensures depth { request_of (scalar_words (codes "1,0,-100") (codes "--depth=0" ∷ codes "--from=50"
         ∷ codes "--to=-50" ∷ [])) ≡ Ok (Scalar (scalar_in 0 (pos 50) (neg_ℤ (pos 50)))) }
 {}
 
-/// A polynomial has three numbers, of at most 19 digits and in their limits, and comes first. Both ends are needed, as whole
-/// numbers, and no file is read.
-pub fn faults_of_scalars()
+/// Works out which option of `scalar` is reported as bad, the polynomial first: it has three numbers of at most 19
+/// digits, within their limits. Both ends are needed, as whole numbers, and no file is read.
+pub fn the_first_bad_option_of_scalar_is_reported()
     ensures two { request_of (scalar_words (codes "1,0") (codes "--from=x" ∷ []))
         ≡ Err (BadValue opt.Quad) }
     ensures four { request_of (scalar_words (codes "1,0,0,0") []) ≡ Err (BadValue opt.Quad) }

@@ -18,21 +18,21 @@ impl Model for Text {
 }
 
 impl Text {
-    /// The text of a string. It does not allocate.
+    /// Wraps a string as a text, of which contracts see the bytes. It does not allocate.
     pub fn new(string: String) -> Self
         ensures { result ≡ string_bytes string }
     {
         Text { string }
     }
 
-    /// The text as a string. It does not allocate.
+    /// Returns the string that this text wraps, and consumes the text. It does not allocate.
     pub fn into_string(self) -> String
         ensures { string_bytes result ≡ self }
     {
         self.string
     }
 
-    /// The text's characters.
+    /// Returns the characters of this text, borrowed from it.
     pub fn as_str(&self) -> &str
         ensures { result.now ≡ self.now }
     {
@@ -55,14 +55,15 @@ impl Model for FileNames {
 }
 
 impl FileNames {
-    /// The names of a vector, in its order. It does not allocate.
+    /// Wraps a vector of names as a list of file names, in its order, of which contracts see the bytes. It does not
+    /// allocate.
     pub fn new(names: Vec<String>) -> Self
         ensures { result ≡ map string_bytes names.items }
     {
         FileNames { names }
     }
 
-    /// The names in their order.
+    /// Returns the names of the files in their order, borrowed from the list.
     pub fn as_slice(&self) -> &[String]
         ensures { map string_bytes result.now ≡ self.now }
     {

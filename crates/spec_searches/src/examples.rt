@@ -6,17 +6,18 @@ ghost use Rattle.spec_events.specs.VerdictExamples.{node_at};
 ghost use Rattle.spec_searches.specs.Found.{root};
 ghost use Rattle.spec_searches.specs.Search.{border_cut, guards_from, parts_at, parts_by};
 
-/// A node into which a border falls is cut at the time before the border, or at the border where that time is its first.
-pub fn cuts_at_borders()
+/// Works out where a node into which a border of granules falls is cut: one tick before the border, as at -23734711 for
+/// the border -23734710, or at the border itself if the tick before it is the node's start.
+pub fn nodes_are_cut_before_borders()
     ensures before { border_cut (node_at (minus 23734712) (minus 23734707) 0) (minus 23734710)
         ≡ minus 23734711 }
     ensures at { border_cut (node_at (minus 15163345) (minus 15163342) 0) (minus 15163344)
         ≡ minus 15163344 }
 {}
 
-/// The parts of a node that is cut at a border keep its depth; the parts of one that is cut by the rule are one
-/// deeper.
-pub fn parts_of_nodes()
+/// Works out the two parts of a node. If it is cut at a border, here -17075286, they keep its depth, 17; if it is cut
+/// by the rule, here in the middle, they are one deeper.
+pub fn parts_at_a_border_keep_their_depth()
     ensures at_a_border { parts_by Third (Some (minus 17075286))
         (node_at (minus 17075288) (minus 17075251) 17)
         ≡ parts_at (minus 17075287) 17 (node_at (minus 17075288) (minus 17075251) 17) }
@@ -24,8 +25,9 @@ pub fn parts_of_nodes()
         ≡ (node_at (pos 24787864) (pos 24787865) 2, node_at (pos 24787865) (pos 24787866) 2) }
 {}
 
-/// Conditions are tested over a whole node, and at the one time of a node that is one unit wide.
-pub fn times_of_conditions()
+/// Works out the time from which on the conditions of an event are tested at a node: its start if it is wider than one
+/// unit of time, else its end, which is its one time.
+pub fn conditions_of_one_unit_are_tested_at_its_end()
     ensures wide { guards_from (root (pos 4) (pos 6)) ≡ pos 4 }
     ensures unit { guards_from (root (pos 4) (pos 5)) ≡ pos 5 }
 {}

@@ -15,14 +15,15 @@ ghost use Rattle.spec_events.specs.Soundness.{IsEvidence};
 ghost use Rattle.spec_searches.specs.Search.{IsSearch, Search, events, evidence_at, may_be_cut, parts, verdict_of};
 ghost use Rattle.spec_searches.specs.Found.{IsLeftUndecided, IsSpan, leaves_of, root, rules, windows_of};
 
-/// The enclosures of the function and of the conditions, over a valid node, are true findings there.
-pub fn what_is_found_is_true()
+/// States that what a search finds at a valid node, the enclosures of its function and of its conditions there, is true
+/// of their exact values.
+pub fn enclosures_of_searches_are_true_findings()
     ensures { (s : Search) (n : Node) → IsSearch s → IsValid (rules s) n
         → IsEvidence (exact_of (exact_state s.view) s.event.function) n (evidence_at s n) }
 {}
 
-/// A valid node that is clear holds no event, and one whose verdict is one event holds exactly one, a turn in its
-/// direction.
+/// States that in a search over an ephemeris a valid node that is clear holds no event, and one whose verdict is one
+/// event holds exactly one, a turn in its direction.
 pub fn verdicts_are_true()
     ensures clear { (s : Search) (n : Node) → IsSearch s → IsValid (rules s) n
         → verdict_of s n ≡ Clear → HasNoEvent (events s) n.a n.b }
@@ -30,8 +31,9 @@ pub fn verdicts_are_true()
         → verdict_of s n ≡ One turn → HoldsOne (events s) turn (window_of n (Certain turn)) }
 {}
 
-/// A node that is split may be cut, and the parts of a valid node that may be cut are valid and cut it.
-pub fn nodes_that_may_be_cut()
+/// States that a node with the verdict split may be cut, and that the two parts of a valid node that may be cut follow
+/// one another over it and are valid nodes.
+pub fn nodes_that_may_be_cut_have_valid_parts()
     ensures split { (s : Search) (n : Node) → verdict_of s n ≡ Split
         → may_be_cut s n ≡ true }
     ensures cuts { (s : Search) (n : Node) → IsSearch s → IsValid (rules s) n
@@ -42,16 +44,18 @@ pub fn nodes_that_may_be_cut()
         → may_be_cut s n ≡ true → IsValid (rules s) (parts s n).1 }
 {}
 
-/// The rules of a search are sound, and the root of a span is valid.
+/// States that the rules by which a search cuts nodes are sound, and that the root of a span that the search can look
+/// at is a valid node.
 pub fn searches_are_sound()
     ensures rules { (s : Search) → IsSearch s → IsSound (rules s) }
     ensures root { (s : Search) (first last : ℤ) → IsSearch s → IsSpan s first last
         → IsValid (rules s) (root first last) }
 {}
 
-/// Valid nodes that are not split, each with the mark of its verdict, are rightly marked, wherever they come from.
-/// Where they follow one another over a span, their windows are those of the events in it.
-pub fn windows_of_any_leaves()
+/// States that valid nodes that are not split, each with the mark of its verdict, are rightly marked, wherever they
+/// come from. If they follow one another over a span, their windows hold the events in it, as those of the search's own
+/// tree do.
+pub fn windows_of_any_leaves_hold_the_events()
     ensures marks { (s : Search) (ls : List Leaf) → IsSearch s → AreLeaves (rules s) ls
         → AreRightlyMarked (events s) (IsLeftUndecided s ls) ls }
     ensures windows { (s : Search) (first last : ℤ) (ls : List Leaf) → IsSearch s
@@ -59,17 +63,16 @@ pub fn windows_of_any_leaves()
         → AreWindows (events s) (IsLeftUndecided s ls) first last (windows ls) }
 {}
 
-/// Each leaf of a valid node has the right mark: a clear one has no event, one with a turn has exactly one event, and
-/// an undecided one is no wider than the width or as deep as the depth.
+/// States that each leaf of the tree of a valid node has the right mark: a clear one has no event, one with a turn
+/// exactly one event, and an undecided one is no wider than the width or as deep as the depth.
 pub fn leaves_are_rightly_marked()
     ensures { (s : Search) (n : Node) → IsSearch s → IsValid (rules s) n
         → AreRightlyMarked (events s) (IsLeftUndecided s (leaves (rules s) n))
         (leaves (rules s) n) }
 {}
 
-/// The windows that a search finds in a span are those of its events: they lie in the span in order, hold every event,
-/// each certain one exactly one, and each time of an undecided one lies in a leaf of the span's tree that was left
-/// undecided and lies in the window.
+/// States that the windows that a search finds in a span lie in it in order and hold every event, each certain one
+/// exactly one. Each time of an undecided window lies in a leaf that was left undecided and lies in the window.
 pub fn windows_hold_the_events()
     ensures { (s : Search) (first last : ℤ) → IsSearch s → IsSpan s first last
         → AreWindows (events s) (IsLeftUndecided s (leaves_of s first last)) first last

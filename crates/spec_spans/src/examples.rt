@@ -11,9 +11,9 @@ ghost use Rattle.spec_spans.specs.Pieces.{AreSeams, leaves_of_pieces};
 ghost use Rattle.spec_spans.specs.Searches.{some_blocks};
 ghost use Rattle.spec_spans.specs.Seams.{block_start};
 
-/// An undecided window that ends with a span and one that starts with the next are joined into one. A tick between
-/// them, or a certain window, keeps windows apart.
-pub fn windows_joined()
+/// Works out windows of two spans that meet at 6: the undecided windows 4 to 6 and 7 to 8 are joined to 4 to 8. Windows
+/// with a tick between them (6 and 8) or of which one is certain stay apart, and a span without windows adds none.
+pub fn undecided_windows_that_touch_are_joined()
     ensures one { joined earlier later
         ≡ window (pos 1) (pos 1) (Certain Rise) ∷ window (pos 4) (pos 8) Undecided
         ∷ window (pos 9) (pos 9) (Certain Rise) ∷ [] }
@@ -22,15 +22,16 @@ pub fn windows_joined()
     ensures none { joined [] later ≡ later }
 {}
 
-/// The last of three blocks of 100 ticks starts 200 ticks after the first; the last two alone have their own numbers.
-pub fn blocks_alone()
+/// Works out blocks of an ephemeris of three blocks of 100 ticks from 1000 on: the last starts at 1200, and the
+/// ephemeris of the last two alone starts at 1100 and has the last four of its six numbers.
+pub fn some_blocks_have_their_start_and_numbers()
     ensures start { block_start three_blocks 2 ≡ pos 1200 }
     ensures last_two { some_blocks 1 2 three_blocks ≡ last_two_blocks }
 {}
 
-/// Two times cut a span into three pieces, and no time leaves it whole. The times of the cuts lie inside the span, in
-/// order.
-pub fn pieces_of_a_span()
+/// Works out pieces of the span from 0 to 20: no cut leaves it whole, and cuts at 5 and 9 make three pieces, whose
+/// leaves follow one another. Cuts have to lie inside the span, so not at 20, and in order, so not 9 and then 5.
+pub fn cut_times_make_pieces()
     ensures whole { (s : Search) → leaves_of_pieces s (pos 0) [] (pos 20) ≡ leaves_of s (pos 0) (pos 20) }
     ensures three { (s : Search) → leaves_of_pieces s (pos 0) (pos 5 ∷ pos 9 ∷ []) (pos 20)
         ≡ leaves_of s (pos 0) (pos 5) ++ (leaves_of s (pos 5) (pos 9) ++ leaves_of s (pos 9) (pos 20)) }

@@ -15,17 +15,17 @@ ghost use Rattle.spec_spans.specs.Pieces.{AreSeams, leaves_of_pieces};
 ghost use Rattle.spec_spans.specs.Seams.{IsBlockBorder, IsSeam};
 ghost use Rattle.spec_spans.specs.Searches.{AreBlocksUpTo, limited, over_blocks};
 
-/// Where a span is cut at a border of a column in use, or one tick before it, the windows of its two parts, joined, are
-/// the windows of the span: with every width, depth and cut rule, and with the undecided ones.
+/// States that the windows of a span are those of its two parts, joined, if it is cut at a border of a column in use or
+/// one tick before it. This holds for every width, depth and cut rule, also for undecided windows.
 pub fn spans_meet_at_borders()
     ensures { (s : Search) (first last time : ℤ) → IsSearch s → IsSpan s first last
         → IsSeam s first last time
         → windows_of s first last ≡ joined (windows_of s first time) (windows_of s time last) }
 {}
 
-/// Where a span is cut at borders of columns in use, or one tick before them, the leaves of its pieces, one after another,
-/// are the leaves of the span, each with its times, its depth and its mark. A piece that is searched over some of the
-/// blocks alone has the leaves that it has over all of them.
+/// States that the leaves of a span are those of its pieces, one after another, with their depths and marks, if it is
+/// cut at borders of columns in use or one tick before them, and that a search over some of the blocks has the leaves
+/// that it has over all.
 pub fn leaves_meet_at_borders()
     ensures pieces { (s : Search) (first last : ℤ) (times : List ℤ) → IsSearch s → IsSpan s first last
         → AreSeams s first times last → leaves_of s first last ≡ leaves_of_pieces s first times last }
@@ -36,9 +36,9 @@ pub fn leaves_meet_at_borders()
         → leaves_of (over_blocks skipped count s) first last ≡ leaves_of s first last }
 {}
 
-/// The windows of two spans that meet, joined or side by side, keep every promise of the windows of both. The
-/// undecided leaves are those of the two.
-pub fn neighbouring_spans()
+/// States that the windows of two spans that meet at a time, joined or side by side, hold the events of both spans as
+/// the windows of each do. The undecided leaves are those of both.
+pub fn windows_of_neighbouring_spans_keep_their_promises()
     ensures joined { (s : Search) (first time last : ℤ) → IsSearch s → IsSpan s first time
         → IsSpan s time last
         → AreWindows (events s)
@@ -51,9 +51,9 @@ pub fn neighbouring_spans()
         (windows_of s first time ++ windows_of s time last) }
 {}
 
-/// The border of two blocks is a border of every column; where some column is in use, that time, and the tick before
-/// it, are times at which a span can be cut.
-pub fn borders_of_blocks()
+/// States that a time at which a block other than the first starts is a border of every column that is present, and
+/// that if a column is in use this time and the tick before it are times at which a span may be cut.
+pub fn borders_of_blocks_are_borders_of_columns()
     ensures of_columns { (e : Ephemeris) (number : ℕ) (time : ℤ) → IsEphemeris e
         → IsTrue (has_column e.header number) → IsBlockBorder e time → IsBorder e number time }
     ensures seams { (s : Search) (number : ℕ) (first last border time : ℤ) → IsSearch s
@@ -62,10 +62,9 @@ pub fn borders_of_blocks()
         → IsSeam s first last time }
 {}
 
-/// Where the width is one tick and nothing is left undecided, a span has one list of windows: any leaves that cover it
-/// have the same, a span cut anywhere has those of its parts, and neither the depth nor the rule of the cuts changes
-/// them.
-pub fn decided_ticks()
+/// States that if the width is one tick and nothing is left undecided, a span has one list of windows: the same from
+/// any leaves that cover it, from its parts if it is cut at any time, and with any greatest depth and cut rule.
+pub fn decided_windows_of_one_tick_are_unique()
     ensures leaves { (s : Search) (first last : ℤ) (ls ms : List Leaf) → IsSearch s → s.width ≡ 1
         → Covers first ls last → AreLeaves (rules s) ls → AreDecided (windows ls)
         → Covers first ms last → AreLeaves (rules s) ms → AreDecided (windows ms)
@@ -81,10 +80,10 @@ pub fn decided_ticks()
         → windows_of s first last ≡ windows_of (limited depth rule s) first last }
 {}
 
-/// A search over some of the blocks alone finds what the search over all of them does, in every span that ends before
-/// these blocks end, or wherever it ends where they are the last: a time at a border is read from the block that begins
-/// there, so that block has to be there.
-pub fn searches_over_some_blocks()
+/// States that a search over some of the blocks finds the same windows as over all, in every span that ends before
+/// these blocks end, or with the last block. A time at a border is read from the block that begins there, which is why
+/// that block has to be there.
+pub fn searches_over_some_blocks_find_the_same()
     ensures { (s : Search) (skipped count : ℕ) (first last : ℤ) → IsSearch s
         → IsSearch (over_blocks skipped count s)
         → AreBlocksUpTo s.view.ephemeris skipped count last

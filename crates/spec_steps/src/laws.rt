@@ -18,8 +18,8 @@ ghost use Rattle.spec_steps.specs.ColumnTerms.{ColumnTerm, column, coordinate_of
 ghost use Rattle.spec_steps.specs.Meanings.{bound_meant, enclosure_meant, point_meant};
 ghost use Rattle.spec_steps.specs.Parts.{IsPart, IsSeen, IsSeenColumn};
 
-/// In each arithmetic the term of a formula means what the formula does: its enclosure, its bound, and its interval at a
-/// single time.
+/// States that the term of columns that stands for a formula means what the formula does, in each arithmetic: it has
+/// the same enclosure over `[a, b]`, the same bound, and the same interval at a single time.
 pub fn terms_mean_their_formulas()
     ensures enclosures { (v : View) (e : Term) (a b : ℤ)
         → enclosure_meant v a b (of_term (sight_of v) e) ≡ enclosure_over (state_enclosure v) e a b }
@@ -29,16 +29,17 @@ pub fn terms_mean_their_formulas()
         → point_meant v c t (of_term (sight_of v) e) ≡ point_of (state_point v c t) e }
 {}
 
-/// Each coordinate of a target along an axis is a short formula of the columns in use. So its term, and that of each
-/// formula, may stand in a list.
-pub fn what_may_be_listed()
+/// States that each coordinate along an axis is a short formula of the columns in use, and that the terms of
+/// coordinates, and of each formula, may therefore stand in a list of steps (`IsPart`).
+pub fn terms_of_formulas_may_be_listed()
     ensures coordinates { (s : Sight) (target axis : ℕ) → axis < 3
         → IsSeen s (coordinate_of s target axis) }
     ensures leaves { (s : Sight) (l : Leaf) → IsLeaf l → IsPart s (of_leaf s l) }
     ensures formulas { (s : Sight) (e : Term) → IsFormula e → IsPart s (of_term s e) }
 {}
 
-/// The parts of a term that may stand in a list may stand in it too.
+/// States that the operands of a term that may stand in a list (`IsPart`) may stand in it too: of scaled terms, sums,
+/// differences, products and signed squares.
 pub fn parts_may_be_listed()
     ensures scaled { (s : Sight) (f : Factor) (x : ColumnTerm) → IsPart s (scaled f x) → IsPart s x }
     ensures sums { (s : Sight) (x y : ColumnTerm) → IsPart s (sum x y) → IsPart s x × IsPart s y }
@@ -49,13 +50,15 @@ pub fn parts_may_be_listed()
     ensures squares { (s : Sight) (x : ColumnTerm) → IsPart s (signed_square x) → IsPart s x }
 {}
 
-/// The constants of a list are those of formulas, within the limits of formulas.
+/// States that the constants that may stand in a list are within the limits of formulas: lengths are below 2^36 km and
+/// cosines at most 1 in magnitude.
 pub fn listed_constants_are_within_limits()
     ensures lengths { (s : Sight) (d : Decimal) → IsPart s (length d) → IsDistance d.mant d.exp }
     ensures cosines { (s : Sight) (d : Decimal) → IsPart s (cosine d) → IsCosine d.mant d.exp }
 {}
 
-/// The columns of a list are those in use, which can be read.
+/// States that the columns that may stand in a list are those in use by what is seen, and that a checked view can read
+/// them.
 pub fn listed_columns_are_read()
     ensures seen { (s : Sight) (q : Quantity) (number axis : ℕ) → IsPart s (column q number axis)
         → IsSeenColumn s number axis }
@@ -63,14 +66,16 @@ pub fn listed_columns_are_read()
         → IsSeenColumn (sight_of v) number axis → IsReadable v number axis }
 {}
 
-/// Over times that fit, no exponent of a bound passes the limit, so that every rule can be applied.
+/// States that over times between which no granule of a column in use begins no exponent in the bound of a term that
+/// may stand in a list passes `part_exponent`, so that every rule on intervals can be applied.
 pub fn listed_bounds_are_within_limits()
     ensures { (v : View) (t : ColumnTerm) (a b : ℤ) → IsPart (sight_of v) t → Fits v a b
         → IsBoundWithin part_exponent (bound_meant v a b t) }
 {}
 
-/// Over times that fit, no exponent of an enclosure passes the limit, and some value is enclosed, so that every rule can be
-/// applied.
+/// States that over times between which no granule of a column in use begins no exponent in the enclosure of a term
+/// that may stand in a list passes `part_exponent`, and that it encloses some function, so that every rule on
+/// enclosures can be applied.
 pub fn listed_enclosures_are_within_limits()
     ensures within { (v : View) (t : ColumnTerm) (a b : ℤ) → IsPart (sight_of v) t → Fits v a b
         → AllWithin part_exponent (enclosure_meant v a b t) }

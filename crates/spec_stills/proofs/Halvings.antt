@@ -4,11 +4,6 @@ use Rattle.std.proofs.Common.{◌≡◌, ℕ, zero, suc, ◌+◌, ◌*◌, ◌^�
 use Rattle.std.specs.Prelude.{if◌then◌else◌, min}
 use Rattle.std.proofs.lemmas.Int.{ints}
 use Rattle.std.proofs.lemmas.Bool.{and_parts, cases_lt, leb-true, lt-ltb}
-use Rattle.spec_ephemeris.specs.Borders.{nearest_border}
-use Rattle.spec_ephemeris.specs.Ephemeris.{IsNearestBorder}
-use Rattle.spec_ephemeris.proofs.NearestBorders.{nearest_of_all}
-use Rattle.spec_bodies.specs.Views.{columns_of}
-use Rattle.spec_bodies.proofs.InUse.{present_in_use}
 use Rattle.spec_trees.specs.declared.cuts.CutRule.{CutRule}
 use Rattle.spec_trees.specs.declared.cuts.CutRule.TheVariants.{Half, Third}
 use Rattle.spec_trees.specs.declared.tree.Node.{Node}
@@ -23,6 +18,7 @@ use Rattle.spec_events.specs.Verdict.{Criteria, Findings, is_clear, is_one, is_s
 use Rattle.spec_searches.specs.Found.{rules}
 use Rattle.spec_searches.specs.Search.{Search, IsSearch, border_in, criteria, crosses, evidence_at, parts, parts_at, parts_by, verdict_of}
 use Rattle.spec_searches.proofs.Parts.{rules_are_sound}
+use Rattle.spec_bounds.proofs.Quiet.{open_by_fit}
 use Rattle.spec_stills.specs.declared.still.StillSpan.{StillSpan}
 use Rattle.spec_stills.specs.Still.{HasWider, IsStill, is_fine_enough, is_half, is_near_enough, lies_in, serves}
 use Rattle.spec_stills.specs.Weights.{fewest_halvings, halvings_of}
@@ -148,24 +144,25 @@ module _ (s : Search) (x : StillSpan) where
 
   module _ (is : IsSearch s) (still : IsStill s x) (half : is_half s.cut ≡ true) (fine : s.width ≤ x.widest) where
     -- no border lies in a node within the span, if that has room for nodes that are wider than it asks
-    open_node : HasWider x → (n : Node) → x.from ≤ℤ n.a → n.b ≤ℤ x.upto → crosses s n ≡ false
-    open_node room n from upto =
-        by (nearest_border s.view.ephemeris (columns_of s.view) n.a n.b)
-        (nearest_of_all s.view.ephemeris (columns_of s.view) n.a n.b is.view.checked (present_in_use s.view is.view))
-      where
-        by : (border : Option ℤ) → IsNearestBorder s.view.ephemeris (columns_of s.view) n.a n.b border → is_some border ≡ false
-        by None nearest = refl
-        by (Some t) nearest =
-            let there = nearest.0 in
-            let after = there.after in
-            let before = there.upto in
-            absurd (still.no_border room t (record {
-              number = there.number;
-              listed = there.listed;
-              border = there.border;
-              after = omega (arith, ints, after, from);
-              upto = omega (arith, ints, before, upto);
-            }))
+    open_node : HasWider x → (n : Node) → IsValid (rules s) n → x.from ≤ℤ n.a → n.b ≤ℤ x.upto → crosses s n ≡ false
+    open_node room n valid from upto =
+        let inside = valid.inside in
+        open_by_fit s n is (record {
+          view = is.view;
+          ordered = omega (arith, ints, inside);
+          from = valid.from;
+          upto = valid.to;
+          no_border = λ t there.
+              let after = there.after in
+              let before = there.upto in
+              still.no_border room t (record {
+                number = there.number;
+                listed = there.listed;
+                border = there.border;
+                after = omega (arith, ints, after, from);
+                upto = omega (arith, ints, before, upto);
+              });
+        })
 
     -- one that is wider than the span asks, and not as deep as the depth
     wider_verdict : (n : Node) → IsValid (rules s) n → x.widest < width n → n.depth < s.depth → (verdict_of s n ≡ Clear) ⊎ (verdict_of s n ≡ Split)
@@ -181,10 +178,10 @@ module _ (s : Search) (x : StillSpan) where
         not_narrow : (w v : ℕ) → w < v → nat_le v w ≡ false
         not_narrow w v below = grind (arith, ints)
 
-    parts_are_halves : HasWider x → (n : Node) → x.from ≤ℤ n.a → n.b ≤ℤ x.upto → parts s n ≡ parts_at (cut_of Half n.a n.b) (n.depth + 1) n
-    parts_are_halves room n from upto =
+    parts_are_halves : HasWider x → (n : Node) → IsValid (rules s) n → x.from ≤ℤ n.a → n.b ≤ℤ x.upto → parts s n ≡ parts_at (cut_of Half n.a n.b) (n.depth + 1) n
+    parts_are_halves room n valid from upto =
         ap (λ (rule : CutRule). parts_by rule (border_in s n) n) (half_is s.cut half)
-        ∙ ap (λ (found : Option ℤ). parts_by Half found n) (none_is (border_in s n) (open_node room n from upto))
+        ∙ ap (λ (found : Option ℤ). parts_by Half found n) (none_is (border_in s n) (open_node room n valid from upto))
 
     by_clear : (k : ℕ) (n : Node) → IsValid (rules s) n → verdict_of s n ≡ Clear → IsClearBlock (doubled k 1) (leaves (rules s) n)
     by_clear k n valid clear =
@@ -198,7 +195,7 @@ module _ (s : Search) (x : StillSpan) where
     by_verdict room k n valid near below (inr split) =
         let sound = rules_are_sound s is.view in
         let cut = sound.cut n valid split in
-        let parts_near = subst (AreNear k) (sym (parts_are_halves room n near.from near.upto)) (halves_near k n valid near) in
+        let parts_near = subst (AreNear k) (sym (parts_are_halves room n valid near.from near.upto)) (halves_near k n valid near) in
         subst (IsClearBlock (doubled (suc k) 1)) (sym (leaves_split (rules s) sound n valid split))
         (both_clear (doubled k 1) (doubled k 1) (leaves (rules s) (parts s n).0) (leaves (rules s) (parts s n).1)
         (below (parts s n).0 cut.left parts_near.left) (below (parts s n).1 cut.right parts_near.right))

@@ -4,6 +4,7 @@ pub mod Served
 pub mod Units
 pub mod Monotone
 pub mod Sound
+pub mod EagerInduction
 pub mod Alike
 pub mod Cleared
 pub mod Settling

@@ -28,6 +28,7 @@ use Rattle.spec_stills.specs.ServedTree.{TellTheSame, served_rules, served_verdi
 use Rattle.spec_stills.specs.Settled.{leaves_below}
 use Rattle.spec_stills.proofs.Blocks.{one_clear}
 use Rattle.spec_stills.proofs.Served.{second, served_block}
+use Rattle.spec_stills.proofs.Sound.{sound_by}
 
 -- ---- the tree
 split_of : (served : Bool) (v : Verdict) → (if served then Clear else v) ≡ Split → v ≡ Split
@@ -52,14 +53,7 @@ module _ (s : Search) (xs : List StillSpan) where
 
   pub served_sound : IsSearch s → IsSound (served_rules s xs)
   served_sound is =
-      let sound = rules_are_sound s is.view in
-      record {
-        low = sound.low;
-        high = sound.high;
-        cut = λ n valid split.
-            let cut = sound.cut n (valid_whole n valid) (served_split n split) in
-            record { cuts = cut.cuts; left = valid_served (parts s n).0 cut.left; right = valid_served (parts s n).1 cut.right };
-      }
+      sound_by s is (served_verdict s xs) (λ n valid split. (rules_are_sound s is.view).cut n valid (served_split n split))
 
 -- ---- signs of leaves one after the other
 chosen : (b : Bool) (x y z : Sign) → (b ≡ false → y ≡ z) → (if b then x else y) ≡ (if b then x else z)

@@ -1,9 +1,8 @@
 -- The settled leaves of an eager tree beside those of the tree.
-use Rattle.std.proofs.Common.{◌≡◌, ℕ, zero, suc, ◌≤◌, ◌⊎◌, inl, inr, All, List, [], ◌∷◌, ◌++◌, Bool, true, false, ◌&&◌, Option, Some, None, ℤ, ◌≤ℤ◌, ◌<ℤ◌, refl, sym, ap, ◌∙◌, subst, subst₂, arith}
+use Rattle.std.proofs.Common.{◌≡◌, inl, inr, All, List, [], ◌∷◌, ◌++◌, Bool, true, false, ◌&&◌, Some, ℤ, ◌≤ℤ◌, ◌<ℤ◌, refl, sym, ap, ◌∙◌, subst, subst₂, arith}
 use Rattle.std.specs.Prelude.{if◌then◌else◌, map}
 use Rattle.std.specs.List.{list_any}
 use Rattle.std.proofs.lemmas.Int.{ints}
-use Rattle.std.proofs.lemmas.Bool.{and_parts}
 use Rattle.std.proofs.lemmas.List.{length-map, map-append}
 use Rattle.std.proofs.lemmas.List.Elements.{All-cons, All-head, All-nil, All-tail}
 use Rattle.spec_trees.specs.declared.tree.Leaf.{Leaf}
@@ -15,10 +14,10 @@ use Rattle.spec_trees.specs.declared.tree.Turn.TheVariants.{Rise, Fall}
 use Rattle.spec_trees.specs.declared.tree.Verdict.{Verdict}
 use Rattle.spec_trees.specs.declared.tree.Verdict.TheVariants.{Clear, One, Split, Undecided}
 use Rattle.spec_trees.specs.declared.window.Holds.TheVariants as H
-use Rattle.spec_trees.specs.Tree.{AreLeaves, Covers, IsLeaf, IsValid, leaf_of, leaves, mark_of, width}
+use Rattle.spec_trees.specs.Tree.{AreLeaves, Covers, IsCut, IsLeaf, IsValid, leaf_of, leaves, mark_of}
 use Rattle.spec_trees.specs.Windows.{is_undecided, window_of, windows}
 use Rattle.spec_trees.proofs.Covering.{leaves_are, leaves_cover}
-use Rattle.spec_trees.proofs.Leaves.{leaves_settled, leaves_split, no_mark, parts_width, some_width}
+use Rattle.spec_trees.proofs.Leaves.{leaves_settled, leaves_split}
 use Rattle.spec_trees.proofs.Placing.{covers_forward}
 use Rattle.spec_events.specs.Events.{HasNoEvent, HoldsOne, IsEvent}
 use Rattle.spec_events.specs.Stages.{is_above_limits}
@@ -30,7 +29,8 @@ use Rattle.spec_stills.specs.declared.still.StillSpan.{StillSpan}
 use Rattle.spec_stills.specs.Still.{AreClear, IsStill, is_served}
 use Rattle.spec_stills.proofs.Served.{served_block}
 use Rattle.spec_stills.specs.Eager.{begin_in, eager_rules, eager_verdict}
-use Rattle.spec_stills.proofs.Sound.{eager_sound, judged_verdict, served_verdict, unjudged_verdict, valid_eager, valid_fine, verdict_above}
+use Rattle.spec_stills.proofs.EagerInduction.{along_eager_tree}
+use Rattle.spec_stills.proofs.Sound.{eager_sound, served_verdict, valid_eager, valid_fine}
 use Rattle.spec_stills.specs.Settled.{clears, is_cleared, settled, settled_by, settled_leaves}
 use Rattle.spec_stills.proofs.Alike.{AreAlike, alike_back, alike_clear, alike_itself, both_alike, same_windows}
 use Rattle.spec_stills.proofs.Cleared.{IsBetween, all_between, cleared_by_one, cleared_left, cleared_right, same_map, some_leaves}
@@ -111,38 +111,36 @@ module _ (s : Search) (xs : List StillSpan) (is : IsSearch s) where
   -- ---- one that both trees split
   -- the leaves of a part, settled by the whole, are settled by the part
   module _ (n : Node) (valid : IsValid (rules s) n) (eager : eager_verdict s xs n ≡ Split) (split : verdict_of s n ≡ Split) where
+    cut : IsCut (rules s) n
+    cut = (rules_are_sound s is.view).cut n valid split
+
+    part_same : (part : Node) → IsValid (rules s) part
+        → ((l : Leaf) → IsBetween part.a part.b l → list_any (clears l.node) (leaves (rules s) (parts s n).0 ++ leaves (rules s) (parts s n).1) ≡ is_cleared s part l.node)
+        → map (settled s n) (leaves (eager_rules s xs) part) ≡ settled_leaves s xs part
+    part_same part fits cleared =
+        same_map (IsBetween part.a part.b) (settled s n) (settled s part) (leaves (eager_rules s xs) part)
+        (all_between (leaves (eager_rules s xs) part) part.a part.b (leaves_cover (eager_rules s xs) (eager_sound s xs is) part (valid_eager s xs part fits)))
+        (λ l between. ap (λ (b : Bool). settled_by b l)
+        (ap (list_any (clears l.node)) (leaves_split (rules s) (rules_are_sound s is.view) n valid split) ∙ cleared l between))
+
     left_same : map (settled s n) (leaves (eager_rules s xs) (parts s n).0) ≡ settled_leaves s xs (parts s n).0
     left_same =
-        let sound = rules_are_sound s is.view in
-        let cut = sound.cut n valid split in
-        let left = (parts s n).0 in
         let right = (parts s n).1 in
         let meet = cut.cuts.meet in
-        same_map (IsBetween left.a left.b) (settled s n) (settled s left) (leaves (eager_rules s xs) left)
-        (all_between (leaves (eager_rules s xs) left) left.a left.b (leaves_cover (eager_rules s xs) (eager_sound s xs is) left (valid_eager s xs left cut.left)))
-        (λ l between.
+        part_same (parts s n).0 cut.left (λ l between.
         let upto = between.upto in
         let inside = between.inside in
-        ap (λ (b : Bool). settled_by b l)
-        (ap (list_any (clears l.node)) (leaves_split (rules s) sound n valid split)
-        ∙ cleared_left l.node between.inside (leaves (rules s) left) (leaves (rules s) right) right.a right.b
-        (leaves_cover (rules s) sound right cut.right) (omega (arith, ints, inside, upto, meet))))
+        cleared_left l.node between.inside (leaves (rules s) (parts s n).0) (leaves (rules s) right) right.a right.b
+        (leaves_cover (rules s) (rules_are_sound s is.view) right cut.right) (omega (arith, ints, inside, upto, meet)))
 
     right_same : map (settled s n) (leaves (eager_rules s xs) (parts s n).1) ≡ settled_leaves s xs (parts s n).1
     right_same =
-        let sound = rules_are_sound s is.view in
-        let cut = sound.cut n valid split in
         let left = (parts s n).0 in
-        let right = (parts s n).1 in
         let meet = cut.cuts.meet in
-        same_map (IsBetween right.a right.b) (settled s n) (settled s right) (leaves (eager_rules s xs) right)
-        (all_between (leaves (eager_rules s xs) right) right.a right.b (leaves_cover (eager_rules s xs) (eager_sound s xs is) right (valid_eager s xs right cut.right)))
-        (λ l between.
+        part_same (parts s n).1 cut.right (λ l between.
         let from = between.from in
-        ap (λ (b : Bool). settled_by b l)
-        (ap (list_any (clears l.node)) (leaves_split (rules s) sound n valid split)
-        ∙ cleared_right l.node between.inside (leaves (rules s) left) (leaves (rules s) right) left.a left.b
-        (leaves_cover (rules s) sound left cut.left) (omega (arith, ints, from, meet))))
+        cleared_right l.node between.inside (leaves (rules s) left) (leaves (rules s) (parts s n).1) left.a left.b
+        (leaves_cover (rules s) (rules_are_sound s is.view) left cut.left) (omega (arith, ints, from, meet)))
 
     pub both_settled : settled_leaves s xs n ≡ settled_leaves s xs (parts s n).0 ++ settled_leaves s xs (parts s n).1
     both_settled =
@@ -150,18 +148,11 @@ module _ (s : Search) (xs : List StillSpan) (is : IsSearch s) where
         ∙ map-append (settled s n) (leaves (eager_rules s xs) (parts s n).0) (leaves (eager_rules s xs) (parts s n).1)
         ∙ (λ i. left_same i ++ right_same i)
 
-  split_alike : (k : ℕ) (n : Node) → IsValid (rules s) n → width n ≤ suc k → eager_verdict s xs n ≡ Split → verdict_of s n ≡ Split
-      → ((i : Node) → IsValid (rules s) i → width i ≤ k → Alike i) → Alike n
-  split_alike k n valid narrow eager split below =
-      let sound = rules_are_sound s is.view in
-      let cut = sound.cut n valid split in
-      let w = parts_width (rules s) n cut in
-      let l = some_width (rules s) (parts s n).0 cut.left in
-      let r = some_width (rules s) (parts s n).1 cut.right in
-      subst₂ AreAlike (sym (both_settled n valid eager split)) (sym (leaves_split (rules s) sound n valid split))
-      (both_alike _ _ _ _
-      (below (parts s n).0 cut.left (omega (arith, narrow, w, l, r)))
-      (below (parts s n).1 cut.right (omega (arith, narrow, w, l, r))))
+  split_alike : (n : Node) → IsValid (rules s) n → eager_verdict s xs n ≡ Split → verdict_of s n ≡ Split
+      → Alike (parts s n).0 → Alike (parts s n).1 → Alike n
+  split_alike n valid eager split left right =
+      subst₂ AreAlike (sym (both_settled n valid eager split)) (sym (leaves_split (rules s) (rules_are_sound s is.view) n valid split))
+      (both_alike _ _ _ _ left right)
 
   -- ---- one that both trees judge
   settled_alike : (n : Node) (m : Mark) → IsValid (rules s) n → eager_verdict s xs n ≡ verdict_of s n → mark_of (verdict_of s n) ≡ Some m → Alike n
@@ -175,25 +166,6 @@ module _ (s : Search) (xs : List StillSpan) (is : IsSearch s) where
       (sym fine)
       (alike_itself (leaf_of n m ∷ []))
 
-  judged_alike : (k : ℕ) (n : Node) → IsValid (rules s) n → width n ≤ suc k → eager_verdict s xs n ≡ verdict_of s n → (m : Option Mark) → mark_of (verdict_of s n) ≡ m
-      → ((i : Node) → IsValid (rules s) i → width i ≤ k → Alike i) → Alike n
-  judged_alike k n valid narrow same (Some m) marked below = settled_alike n m valid same marked
-  judged_alike k n valid narrow same None marked below = let split = no_mark (verdict_of s n) marked in split_alike k n valid narrow (same ∙ split) split below
-
-  -- ---- one that is split unjudged
-  unjudged_alike : (k : ℕ) (n : Node) → IsValid (rules s) n → width n ≤ suc k → eager_verdict s xs n ≡ Split → (verdict_of s n ≡ Clear) ⊎ (verdict_of s n ≡ Split)
-      → ((i : Node) → IsValid (rules s) i → width i ≤ k → Alike i) → Alike n
-  unjudged_alike k n valid narrow eager (inl clear) below = clear_alike n valid clear
-  unjudged_alike k n valid narrow eager (inr split) below = split_alike k n valid narrow eager split below
-
-  by_begins : (k : ℕ) (n : Node) → IsValid (rules s) n → width n ≤ suc k → is_served s xs n ≡ false
-      → (b : Bool) → (begin_in xs n && is_above_limits (criteria s) n) ≡ b
-      → ((i : Node) → IsValid (rules s) i → width i ≤ k → Alike i) → Alike n
-  by_begins k n valid narrow served true begins below =
-      let above = (and_parts (begin_in xs n) (is_above_limits (criteria s) n) begins).1 in
-      unjudged_alike k n valid narrow (unjudged_verdict s xs n served begins) (verdict_above s n is valid above) below
-  by_begins k n valid narrow served false begins below = judged_alike k n valid narrow (judged_verdict s xs n served begins) (mark_of (verdict_of s n)) refl below
-
   module _ (stills : All (IsStill s) xs) where
     served_alike : (n : Node) → IsValid (rules s) n → is_served s xs n ≡ true → Alike n
     served_alike n valid served =
@@ -202,17 +174,9 @@ module _ (s : Search) (xs : List StillSpan) (is : IsSearch s) where
         (sym (ap (map (settled s n)) (leaves_settled (eager_rules s xs) (eager_sound s xs is) n (valid_eager s xs n valid) M.Clear (ap mark_of (served_verdict s xs n served)))))
         (alike_clear n (leaves (rules s) n) block.some block.clear)
 
-    by_served : (k : ℕ) (n : Node) → IsValid (rules s) n → width n ≤ suc k → (b : Bool) → is_served s xs n ≡ b
-        → ((i : Node) → IsValid (rules s) i → width i ≤ k → Alike i) → Alike n
-    by_served k n valid narrow true served below = served_alike n valid served
-    by_served k n valid narrow false served below = by_begins k n valid narrow served (begin_in xs n && is_above_limits (criteria s) n) refl below
-
-    by_width : (k : ℕ) (n : Node) → IsValid (rules s) n → width n ≤ k → Alike n
-    by_width zero n valid narrow = absurd (omega (arith, narrow, some_width (rules s) n valid))
-    by_width (suc k) n valid narrow = by_served k n valid narrow (is_served s xs n) refl (by_width k)
-
     pub settled_same : (n : Node) → IsValid (rules s) n → windows (settled_leaves s xs n) ≡ windows (leaves (rules s) n)
-    settled_same n valid = same_windows (settled_leaves s xs n) (leaves (rules s) n) (by_width (width n) n valid (omega arith))
+    settled_same n valid = same_windows (settled_leaves s xs n) (leaves (rules s) n)
+        (along_eager_tree s xs is Alike served_alike clear_alike settled_alike split_alike n valid)
 
 -- ---- where they stand
 same_place : (b : Bool) (l : Leaf) → (settled_by b l).node ≡ l.node

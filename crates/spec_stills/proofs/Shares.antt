@@ -2,7 +2,7 @@
 use Rattle.std.proofs.Common.{ℕ, ◌-◌, ◌*◌, ◌^◌, ◌<◌, arith, [], ◌∷◌, ℤ, pos, ◌*ℤ◌, ◌≤ℤ◌, ◌<ℤ◌}
 use Rattle.std.proofs.Math.Nat.{mul-pos}
 use borrow.Author.Differences.{up, down}
-use Rattle.spec_numbers.proofs.Ring.{v, k as lit, ◌⊕◌, ◌⊖◌, ◌⊗◌, minus, ring}
+use Rattle.spec_numbers.proofs.Ring.{Poly, v, k as lit, ◌⊕◌, ◌⊖◌, ◌⊗◌, minus, ring}
 use Rattle.spec_numbers.proofs.Order.{lin, le_by, le-mul}
 use Rattle.spec_intervals.specs.Fraction.{Fraction, IsFraction, fraction, fraction_add, fraction_sub}
 use Rattle.spec_models.specs.Ends.{NoMore, in_units, slight}
@@ -20,6 +20,25 @@ most_of g = share 125 128 g
 abbrev pub both_shares : Fraction → Fraction
 both_shares g = fraction_add (share (2 ^ 52) 1 g) (most_of g)
 
+-- a margin as n / d, what stands under its shares, and what rounding a sum of two of them loses
+abbrev n : Poly
+n = v 0
+
+abbrev d : Poly
+d = v 1
+
+abbrev under_most : Poly
+under_most = d ⊗ lit (pos 128)
+
+abbrev under_one : Poly
+under_one = d ⊗ lit (pos 1)
+
+abbrev lost : Poly
+lost = n ⊗ lit (pos (2 ^ 52)) ⊗ under_most ⊕ n ⊗ lit (pos 125) ⊗ under_one
+
+abbrev under_lost : Poly
+under_lost = under_one ⊗ under_most ⊗ lit (pos (2 ^ 58))
+
 module _ (g : Fraction) (positive : pos 0 <ℤ g.numerator) where
   scaled_positive : (k : ℕ) → pos 0 ≤ℤ (g.numerator *ℤ pos k)
   scaled_positive k =
@@ -30,8 +49,6 @@ module _ (g : Fraction) (positive : pos 0 <ℤ g.numerator) where
   -- 31/32 and a little of it are at most 125/128
   pub steps_and_little : NoMore (fraction_add (share 31 32 g) (slight (share 31 32 g))) (most_of g)
   steps_and_little =
-      let n = v 0 in
-      let d = v 1 in
       let steps = n ⊗ lit (pos 31) in
       let under = d ⊗ lit (pos 32) in
       let little = under ⊗ lit (pos (2 ^ 58)) in
@@ -45,35 +62,23 @@ module _ (g : Fraction) (positive : pos 0 <ℤ g.numerator) where
   pub left_below : NoMore (fraction_add (fraction_add (opposite g) (most_of g)) (slight (both_shares g)))
       (opposite (share 1 256 g))
   left_below =
-      let n = v 0 in
-      let d = v 1 in
-      let under = d ⊗ lit (pos 128) in
-      let one = d ⊗ lit (pos 1) in
       let rest = d ⊗ lit (pos 256) in
-      let most = minus n ⊗ under ⊕ n ⊗ lit (pos 125) ⊗ d in
-      let lost = n ⊗ lit (pos (2 ^ 52)) ⊗ under ⊕ n ⊗ lit (pos 125) ⊗ one in
-      let little = one ⊗ under ⊗ lit (pos (2 ^ 58)) in
+      let most = minus n ⊗ under_most ⊕ n ⊗ lit (pos 125) ⊗ d in
       le_by _ _
       (g.numerator *ℤ pos (g.denominator * g.denominator * (g.denominator * g.denominator) * (16384 * 2 ^ 58 - 4096000)))
       (ring (g.numerator ∷ pos g.denominator ∷ [])
-      (minus (n ⊗ lit (pos 1)) ⊗ (d ⊗ under ⊗ little) ⊖ (most ⊗ little ⊕ lost ⊗ (d ⊗ under)) ⊗ rest)
+      (minus (n ⊗ lit (pos 1)) ⊗ (d ⊗ under_most ⊗ under_lost) ⊖ (most ⊗ under_lost ⊕ lost ⊗ (d ⊗ under_most)) ⊗ rest)
       (n ⊗ (d ⊗ d ⊗ (d ⊗ d) ⊗ lit (pos (16384 * 2 ^ 58 - 4096000)))) tt)
       (scaled_positive (g.denominator * g.denominator * (g.denominator * g.denominator) * (16384 * 2 ^ 58 - 4096000)))
 
   pub left_above : NoMore (share 1 256 g) (fraction_sub (fraction_add g (opposite (most_of g))) (slight (both_shares g)))
   left_above =
-      let n = v 0 in
-      let d = v 1 in
-      let under = d ⊗ lit (pos 128) in
-      let one = d ⊗ lit (pos 1) in
       let rest = d ⊗ lit (pos 256) in
-      let most = n ⊗ under ⊕ minus (n ⊗ lit (pos 125)) ⊗ d in
-      let lost = n ⊗ lit (pos (2 ^ 52)) ⊗ under ⊕ n ⊗ lit (pos 125) ⊗ one in
-      let little = one ⊗ under ⊗ lit (pos (2 ^ 58)) in
+      let most = n ⊗ under_most ⊕ minus (n ⊗ lit (pos 125)) ⊗ d in
       le_by _ _
       (g.numerator *ℤ pos (g.denominator * g.denominator * (g.denominator * g.denominator) * (16384 * 2 ^ 58 - 4096000)))
       (ring (g.numerator ∷ pos g.denominator ∷ [])
-      ((most ⊗ little ⊖ lost ⊗ (d ⊗ under)) ⊗ rest ⊖ n ⊗ lit (pos 1) ⊗ (d ⊗ under ⊗ little))
+      ((most ⊗ under_lost ⊖ lost ⊗ (d ⊗ under_most)) ⊗ rest ⊖ n ⊗ lit (pos 1) ⊗ (d ⊗ under_most ⊗ under_lost))
       (n ⊗ (d ⊗ d ⊗ (d ⊗ d) ⊗ lit (pos (16384 * 2 ^ 58 - 4096000)))) tt)
       (scaled_positive (g.denominator * g.denominator * (g.denominator * g.denominator) * (16384 * 2 ^ 58 - 4096000)))
 

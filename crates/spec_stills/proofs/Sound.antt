@@ -7,7 +7,7 @@ use Rattle.spec_trees.specs.declared.tree.Node.{Node}
 use Rattle.spec_trees.specs.declared.tree.Verdict.{Verdict}
 use Rattle.spec_trees.specs.declared.tree.Verdict.TheVariants.{Clear, Split}
 use Rattle.spec_trees.specs.Cuts.{is_wide}
-use Rattle.spec_trees.specs.Tree.{IsSound, IsValid, width}
+use Rattle.spec_trees.specs.Tree.{IsCut, IsSound, IsValid, width}
 use Rattle.spec_events.specs.Soundness.{findings_of}
 use Rattle.spec_events.specs.Stages.{is_above_limits}
 use Rattle.spec_searches.specs.Found.{rules}
@@ -74,6 +74,22 @@ judged_verdict s xs n served begins = by (is_served s xs n) (begin_in xs n && is
     by p q v e f = rw (e, f) refl
 
 -- ---- the tree
+-- the tree of other verdicts is sound, if what they split may be cut
+pub sound_by : (s : Search) → IsSearch s → (verdict : Node → Verdict)
+    → ((n : Node) → IsValid (rules s) n → verdict n ≡ Split → IsCut (rules s) n) → IsSound (record (rules s) { verdict = verdict })
+sound_by s is verdict cut_of_split =
+    let sound = rules_are_sound s is.view in
+    record {
+      low = sound.low;
+      high = sound.high;
+      cut = λ n valid split.
+          let cut = cut_of_split n (record { from = valid.from; inside = valid.inside; to = valid.to; depth = valid.depth }) split in
+          record { cuts = cut.cuts; left = within (parts s n).0 cut.left; right = within (parts s n).1 cut.right };
+    }
+  where
+    within : (m : Node) → IsValid (rules s) m → IsValid (record (rules s) { verdict = verdict }) m
+    within m valid = record { from = valid.from; inside = valid.inside; to = valid.to; depth = valid.depth }
+
 module _ (s : Search) (xs : List StillSpan) where
   pub valid_eager : (n : Node) → IsValid (rules s) n → IsValid (eager_rules s xs) n
   valid_eager n valid = record { from = valid.from; inside = valid.inside; to = valid.to; depth = valid.depth }
@@ -89,13 +105,9 @@ module _ (s : Search) (xs : List StillSpan) where
       by (inr judged) = split_may s n judged
 
   pub eager_sound : IsSearch s → IsSound (eager_rules s xs)
-  eager_sound is =
-      let sound = rules_are_sound s is.view in
-      record {
-        low = sound.low;
-        high = sound.high;
-        cut = λ n valid split.
-            let fine = valid_fine n valid in
-            let are = parts_are s is.view n fine (eager_may n is fine split) in
-            record { cuts = are.0; left = valid_eager (parts s n).0 are.1; right = valid_eager (parts s n).1 are.2 };
-      }
+  eager_sound is = sound_by s is (eager_verdict s xs) cut
+    where
+      cut : (n : Node) → IsValid (rules s) n → eager_verdict s xs n ≡ Split → IsCut (rules s) n
+      cut n valid split =
+          let are = parts_are s is.view n valid (eager_may n is valid split) in
+          record { cuts = are.0; left = are.1; right = are.2 }

@@ -7,19 +7,19 @@ ghost use Rattle.spec_searches.specs.Search.{Search, verdict_of};
 ghost use Rattle.spec_stills.specs.StillExamples.{both, cutting, late};
 ghost use Rattle.spec_stills.specs.Eager.{begin_in, eager_verdict};
 
-/// A span that begins at the time 64 begins in a node that has 64 as its first time or inside, and not in one that ends there
-/// or begins after it.
-pub fn spans_that_begin_in_a_node()
+/// Works out in which nodes the span that starts at 64 starts: in those from 64 to 72 and from 60 to 68, which have 64
+/// as their start or inside, not in the one from 60 to 64, which ends there, nor in the one from 65 on.
+pub fn spans_begin_in_nodes_that_hold_their_start()
     ensures first { begin_in (late ∷ []) (node_at (pos 64) (pos 72) 6) ≡ true }
     ensures inside { begin_in (late ∷ []) (node_at (pos 60) (pos 68) 6) ≡ true }
     ensures last { begin_in (late ∷ []) (node_at (pos 60) (pos 64) 6) ≡ false }
     ensures after { begin_in (late ∷ []) (node_at (pos 65) (pos 72) 6) ≡ false }
 {}
 
-/// A node in which a span begins is split, wherever no span serves it and it is above both limits: wider than 2 ticks and
-/// less deep than 40. One that a span serves is clear, though the span begins in it; and one at a limit, or in which no span
-/// begins, is judged.
-pub fn nodes_that_are_split_unjudged()
+/// Works out which nodes of an eager tree are split without being judged: those in which a still span starts, here 60
+/// to 68, that no span serves and that are wider than the width 2 and less deep than 40. A served node is clear; any
+/// other has the search's verdict.
+pub fn wide_nodes_where_spans_begin_are_split_unjudged()
     ensures split { (s : Search)
         → eager_verdict (cutting Half s) both (node_at (pos 60) (pos 68) 6) ≡ Split }
     ensures served { (s : Search)

@@ -7,7 +7,8 @@ ghost use Rattle.spec_searches.specs.Search.{IsSearch, Search};
 ghost use Rattle.spec_stills.specs.declared.still.StillSpan.{StillSpan};
 ghost use Rattle.spec_stills.specs.Eager.{eager_rules};
 
-/// Eager trees are sound, whatever the spans are, and have the valid nodes of the tree.
+/// States that the rules of an eager tree, in which nodes where a still span starts are split without being judged, are
+/// sound, whatever the spans are, and that every valid node of the search's tree is valid there.
 pub fn eager_trees_are_sound()
     ensures sound { (s : Search) (xs : List StillSpan) → IsSearch s → IsSound (eager_rules s xs) }
     ensures nodes { (s : Search) (xs : List StillSpan) (n : Node) → IsValid (rules s) n

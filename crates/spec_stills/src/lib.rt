@@ -24,9 +24,16 @@ mod still_examples;
 pub mod still_laws;
 pub mod weight_laws;
 
-pub use eager_examples::{nodes_that_are_split_unjudged, spans_that_begin_in_a_node};
-pub use served_examples::nodes_that_are_served_or_judged;
-pub use settled_examples::{leaves_that_are_settled, the_part_of_a_node, what_a_leaf_clears};
+pub use eager_examples::{
+    spans_begin_in_nodes_that_hold_their_start, wide_nodes_where_spans_begin_are_split_unjudged,
+};
+pub use served_examples::served_nodes_are_clear_and_others_judged;
+pub use settled_examples::{
+    a_clear_leaf_clears_nodes_within_it, only_undecided_leaves_are_settled,
+    the_part_of_a_node_is_found_by_its_start,
+};
 pub use spec_intervals::Sign;
 pub use still::StillSpan;
-pub use still_examples::{nodes_that_are_served, weights_of_leaves};
+pub use still_examples::{
+    a_span_serves_nodes_that_halving_makes_narrow, leaves_weigh_two_to_their_halvings,
+};

@@ -10,9 +10,9 @@ ghost use Rattle.spec_stills.specs.declared.still.StillSpan.{StillSpan};
 ghost use Rattle.spec_stills.specs.Still.{IsStill};
 ghost use Rattle.spec_stills.specs.Margins.{HasMargin, IsAbove, IsBelow, StepsFit};
 
-/// A span with a margin is still, with the sign that the function has at its first time, where it lies within times c to d that
-/// fit: for nodes over which the steps of the function, by its bound from c to d, fit the margin, and for nodes of one unit in
-/// any case.
+/// States that a span is still, with the sign that the function has at its first time, if the function keeps a margin
+/// from 0 over it and its steps, by a bound over times around it, fit the margin. For nodes of one unit no fit is
+/// needed.
 pub fn margins_make_spans_still()
     ensures steps { (s : Search) (x : StillSpan) (g : Fraction) (c d : ℤ) → IsSearch s
         → Fits s.view c d → c ≤ℤ x.from → x.from <ℤ x.upto → x.upto ≤ℤ d
@@ -23,7 +23,8 @@ pub fn margins_make_spans_still()
         → sign_at s x.from ≡ x.sign → x.widest ≤ 1 → IsStill s x }
 {}
 
-/// The side of 0 on which a margin lies tells the function's sign at each time of the span.
+/// States that the side of 0 on which a function keeps a positive margin over a span tells its sign at each time of the
+/// span: `Yes` above 0, `No` below.
 pub fn margins_tell_signs()
     ensures above { (s : Search) (a b : ℤ) (g : Fraction) (t : ℤ) → pos 0 <ℤ g.numerator
         → IsFraction g → IsAbove s a b g → a ≤ℤ t → t ≤ℤ b → sign_at s t ≡ Yes }

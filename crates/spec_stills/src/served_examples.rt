@@ -7,8 +7,9 @@ ghost use Rattle.spec_searches.specs.Search.{Search, verdict_of};
 ghost use Rattle.spec_stills.specs.StillExamples.{both, cutting};
 ghost use Rattle.spec_stills.specs.ServedTree.{served_verdict};
 
-/// A node that a span serves is clear. A node that no span serves is judged, even where a span starts in it.
-pub fn nodes_that_are_served_or_judged()
+/// Works out verdicts in a served tree: the node from 64 to 72, which a still span serves, is clear. The node from 60
+/// to 68, in which a span starts, is judged as in the search's tree.
+pub fn served_nodes_are_clear_and_others_judged()
     ensures served { (s : Search)
         → served_verdict (cutting Half s) both (node_at (pos 64) (pos 72) 6) ≡ Clear }
     ensures judged { (s : Search)

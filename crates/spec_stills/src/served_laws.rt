@@ -8,15 +8,16 @@ ghost use Rattle.spec_stills.specs.declared.still.StillSpan.{StillSpan};
 ghost use Rattle.spec_stills.specs.Still.{IsStill};
 ghost use Rattle.spec_stills.specs.ServedTree.{TellTheSame, served_rules};
 
-/// The served trees of any spans are sound, and have the valid nodes of the tree.
+/// States that the rules of a served tree, in which nodes that a still span serves are clear, are sound, whatever the
+/// spans are, and that every valid node of the search's tree is valid there.
 pub fn served_trees_are_sound()
     ensures sound { (s : Search) (xs : List StillSpan) → IsSearch s → IsSound (served_rules s xs) }
     ensures nodes { (s : Search) (xs : List StillSpan) (n : Node) → IsValid (rules s) n
         → IsValid (served_rules s xs) n }
 {}
 
-/// Where the spans are still, the leaves of the served tree tell at each time the sign that the leaves of the tree
-/// tell.
+/// States that if the spans are still, the leaves of a served tree tell at each time the same sign of the function as
+/// the leaves of the search's own tree.
 pub fn served_trees_tell_the_same()
     ensures { (s : Search) (xs : List StillSpan) (root : Node) → IsSearch s → All (IsStill s) xs
         → IsValid (rules s) root

@@ -7,9 +7,10 @@ ghost use Rattle.spec_trees.specs.Tree.{leaf_of};
 ghost use Rattle.spec_events.specs.VerdictExamples.{node_at};
 ghost use Rattle.spec_stills.specs.Settled.{clears, part_with, settled_by};
 
-/// A clear leaf from 60 to 68 clears itself and each node within it, but no node that only overlaps or touches it. A
-/// leaf that is not clear clears nothing.
-pub fn what_a_leaf_clears()
+/// Works out which nodes the clear leaf from 60 to 68 clears: itself and the node from 64 to 65 within it, but neither
+/// the one from 67 to 69 nor the one from 59 to 61, which only overlap it. A leaf with an event or an undecided one
+/// clears nothing.
+pub fn a_clear_leaf_clears_nodes_within_it()
     ensures inside { clears (node_at (pos 64) (pos 65) 9) (clear_at 6 (pos 60) (pos 68)) ≡ true }
     ensures whole { clears (node_at (pos 60) (pos 68) 6) (clear_at 6 (pos 60) (pos 68)) ≡ true }
     ensures over_the_end { clears (node_at (pos 67) (pos 69) 8) (clear_at 6 (pos 60) (pos 68)) ≡ false }
@@ -20,9 +21,9 @@ pub fn what_a_leaf_clears()
         (leaf_of (node_at (pos 60) (pos 68) 6) M.Undecided) ≡ false }
 {}
 
-/// An undecided leaf that lies in a clear one becomes clear, and else stays undecided. Any other leaf stays what it
-/// is.
-pub fn leaves_that_are_settled()
+/// Works out what settling makes of the leaf from 64 to 65: if it lies in a clear leaf of the search's tree (`true`),
+/// it becomes clear if it was undecided, and stays if it has one event. Else it stays undecided.
+pub fn only_undecided_leaves_are_settled()
     ensures cleared { settled_by true (leaf_of (node_at (pos 64) (pos 65) 9) M.Undecided)
         ≡ clear_at 9 (pos 64) (pos 65) }
     ensures undecided { settled_by false (leaf_of (node_at (pos 64) (pos 65) 9) M.Undecided)
@@ -31,8 +32,9 @@ pub fn leaves_that_are_settled()
         ≡ leaf_of (node_at (pos 64) (pos 65) 9) (M.One Rise) }
 {}
 
-/// Of two parts that meet at 64 the first holds a node that starts before 64, and the second one that starts there.
-pub fn the_part_of_a_node()
+/// Works out which of two parts, from 60 to 64 and from 64 to 68, holds a node: the first if the node starts before 64,
+/// as the one from 63 to 64, else the second.
+pub fn the_part_of_a_node_is_found_by_its_start()
     ensures first { part_with (node_at (pos 60) (pos 64) 7, node_at (pos 64) (pos 68) 7)
         (node_at (pos 63) (pos 64) 9) ≡ node_at (pos 60) (pos 64) 7 }
     ensures second { part_with (node_at (pos 60) (pos 64) 7, node_at (pos 64) (pos 68) 7)

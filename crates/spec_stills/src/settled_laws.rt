@@ -17,8 +17,9 @@ ghost use Rattle.spec_stills.specs.Settled.{
   settled_leaves,
 };
 
-/// The settled leaves of a root follow one another over it, whatever the spans are. Where the spans are still, they
-/// have the windows of the root's tree.
+/// States that the settled leaves of a root, which are those of its eager tree with undecided ones cleared where the
+/// search's tree is clear, follow one another over it, and that they have the windows of the search's tree if the spans
+/// are still.
 pub fn settled_leaves_have_the_same_windows()
     ensures follow { (s : Search) (xs : List StillSpan) (root : Node) → IsSearch s
         → IsValid (rules s) root → Covers root.a (settled_leaves s xs root) root.b }
@@ -27,7 +28,9 @@ pub fn settled_leaves_have_the_same_windows()
         → windows (settled_leaves s xs root) ≡ windows (leaves (rules s) root) }
 {}
 
-/// Whether a node lies in a clear leaf of the tree of another is told by a walk from this one down.
+/// States how a walk down from a node `at` finds out whether node `n` lies in a clear leaf of its tree: a clear `at`
+/// tells if it holds `n`, one that is split leaves it to its part that holds `n`, which is valid, and any other leaf
+/// clears nothing.
 pub fn a_walk_down_tells_what_is_cleared()
     ensures clear { (s : Search) (at n : Node) → IsSearch s → IsValid (rules s) at
         → verdict_of s at ≡ Clear → is_cleared s at n ≡ holds at n }

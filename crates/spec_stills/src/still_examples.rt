@@ -8,9 +8,10 @@ ghost use Rattle.spec_stills.specs.StillExamples.{both, cutting, early, early_ag
 ghost use Rattle.spec_stills.specs.Still.{is_served, serves};
 ghost use Rattle.spec_stills.specs.Weights.{weight};
 
-/// A span serves a node of 24 ticks where three halvings make it 3 ticks wide. It serves no wider node, none within
-/// three of the depth, none that reaches over its end, and none that is cut at its first third.
-pub fn nodes_that_are_served()
+/// Works out which nodes a still span serves: at depth 37 one of 24 ticks, which three halvings make 3 ticks wide, as
+/// the span wants. It serves none of 25 ticks, none within three of the depth 40, none past its end, and none that is
+/// cut at its first third.
+pub fn a_span_serves_nodes_that_halving_makes_narrow()
     ensures narrow { (s : Search)
         → serves (cutting Half s) early (node_at (pos 0) (pos 24) 37) ≡ true }
     ensures wide { (s : Search)
@@ -23,10 +24,10 @@ pub fn nodes_that_are_served()
         → serves (cutting Third s) early (node_at (pos 0) (pos 24) 37) ≡ false }
 {}
 
-/// Leaves that are served count 8 and 32, by the span that serves each, and one that is not counts 1; by two spans that serve
-/// it, a leaf counts as the first says. In a span that allows five halvings a leaf of 24 ticks counts 8, since three bring it
-/// to 3 ticks, one of 25 ticks counts 16, one of 7 ticks counts 4, and one of 3 ticks counts 1.
-pub fn weights_of_leaves()
+/// Works out what leaves weigh, by the first span that serves each. In a span that allows five halvings a leaf of 24
+/// ticks weighs 8, since three make it 3 ticks wide, one of 25 ticks 16, one of 7 ticks 4 and one of 3 ticks 1. A leaf
+/// that no span serves weighs 1.
+pub fn leaves_weigh_two_to_their_halvings()
     ensures early { (s : Search) → weight (cutting Half s) both (clear_at 6 (pos 40) (pos 60)) ≡ 8 }
     ensures late { (s : Search) → weight (cutting Half s) both (clear_at 6 (pos 68) (pos 128)) ≡ 32 }
     ensures across { (s : Search) → weight (cutting Half s) both (clear_at 6 (pos 60) (pos 68)) ≡ 1 }

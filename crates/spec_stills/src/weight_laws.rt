@@ -13,8 +13,8 @@ ghost use Rattle.spec_stills.specs.ServedTree.{served_rules};
 ghost use Rattle.spec_stills.specs.Settled.{leaves_below};
 ghost use Rattle.spec_stills.specs.Weights.{IsWeighed};
 
-/// The tree has no more leaves than lie below the leaves of its eager tree, whatever the spans are; and, by still spans, than lie
-/// below those of its served tree.
+/// States that the tree of a search has at most as many leaves as lie below the leaves of its eager tree, whatever the
+/// spans are, and, if the spans are still, at most as many as lie below those of its served tree.
 pub fn the_tree_has_no_more_leaves_than_lie_below()
     ensures eager { (s : Search) (xs : List StillSpan) (root : Node) → IsSearch s
         → IsValid (rules s) root
@@ -24,8 +24,8 @@ pub fn the_tree_has_no_more_leaves_than_lie_below()
         → leaf_count (rules s) root ≤ leaves_below s (leaves (served_rules s xs) root) }
 {}
 
-/// By still spans, each leaf of the eager tree weighs enough, and so does each of the served tree: no more leaves of the tree
-/// lie below it than it weighs.
+/// States that, if the spans are still, at most as many leaves of the search's tree lie below a leaf of its eager tree,
+/// or of its served tree, as that leaf weighs.
 pub fn leaves_weigh_enough()
     ensures eager { (s : Search) (xs : List StillSpan) (ls : List Leaf) → IsSearch s
         → All (IsStill s) xs → AreLeaves (eager_rules s xs) ls → All (IsWeighed s xs) ls }

@@ -24,7 +24,7 @@ pub enum NumberFault {
 impl NumberFault {
     ghost use Rattle.spec_text.specs.Reading.{fault_number};
 
-    /// Returns the number under which the fault is reported: 1, 2 or 3.
+    /// Returns the number under which this fault of a word is reported, as the detail of a `Fault`: 1, 2 or 3.
     pub fn number(self) -> u16
         ensures { result ≡ fault_number self }
     {
@@ -39,7 +39,7 @@ impl NumberFault {
 /// Why a file is refused, and where.
 #[derive(Clone, Copy, Debug, PartialEq, Eq)]
 pub struct Fault {
-    /// The line of the file, counted from 1, or 0 where the fault is of the whole file.
+    /// The line of the file, counted from 1, or 0 if the fault is of the whole file.
     pub line: u32,
     /// The fault's number, under which it is reported.
     pub number: u8,

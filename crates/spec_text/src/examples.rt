@@ -7,7 +7,9 @@ ghost use Rattle.spec_text.specs.Reading.{reading, whole_of};
 ghost use Rattle.spec_text.specs.declared.days.DaysFault.TheVariants.{NotWholeSecond, OutOfRange};
 ghost use Rattle.spec_text.specs.declared.decimals.NumberFault.TheVariants.{ExponentRange, NotNumber, TooManyDigits};
 
-/// JPL's files write the mark `D` and 18 digits. A point may stand after the digits, or before them.
+/// Works out words that are decimals, each as the exact number `mant * 10^exp`: JPL's form with the mark `D` and 18
+/// digits, a point at the end or at the front, a sign, an exponent without a point, and a zero, which is always 0 and
+/// 0.
 pub fn decimals_are_read()
     ensures jpl { reading (codes "0.230542450000000000D+07")
         ≡ Ok (decimal (pos 230542450000000000) (neg_ℤ (pos 11))) }
@@ -18,7 +20,9 @@ pub fn decimals_are_read()
     ensures zero { reading (codes "-0.00e7") ≡ Ok (decimal (pos 0) (pos 0)) }
 {}
 
-/// The fault is the first that applies. Zeros at the front do not count among the 18 digits, and zeros at the end do.
+/// Works out words that are no decimals, with the first fault that applies. `1000000000000000000` has 19 digits, one
+/// too many; leading zeros do not count, so `0000000000000000001` is read as 1. An exponent past 99 in magnitude is
+/// refused.
 pub fn decimals_are_refused()
     ensures no_exponent { reading (codes "1d") ≡ Err NotNumber }
     ensures no_digit { reading (codes ".") ≡ Err NotNumber }
@@ -29,7 +33,8 @@ pub fn decimals_are_refused()
     ensures digits_before_exponent { reading (codes "1234567890123456789e100") ≡ Err TooManyDigits }
 {}
 
-/// A whole number has 1 to 9 digits, zeros at the front too, and no sign.
+/// Works out which words are read as whole numbers: those of 1 to 9 digits without a sign, as `007`. Leading zeros
+/// count among the nine, so `0000000001` gives `None`.
 pub fn whole_numbers_are_read()
     ensures zeros_at_the_front { whole_of (codes "007") ≡ Some 7 }
     ensures nine_digits { whole_of (codes "999999999") ≡ Some 999999999 }
@@ -38,7 +43,9 @@ pub fn whole_numbers_are_read()
     ensures signed { whole_of (codes "+1") ≡ None }
 {}
 
-/// Julian dates are read in seconds from date 0 on. Where two faults apply, the first is reported.
+/// Works out the seconds from Julian date 0 to a date: date 1 is 86,400 and the last, 5,000,000, is 432,000,000,000.
+/// Dates outside are out of range. -10^-6 is no whole second and too early, and only the first fault is reported.
+/// `seconds_of_days` ignores the sign.
 #[tactic(none)]
 pub fn julian_dates_are_seconds()
     ensures day { seconds_of_julian_date (decimal (pos 1) (pos 0)) ≡ Ok 86400 }
@@ -51,7 +58,8 @@ pub fn julian_dates_are_seconds()
     ensures no_sign { seconds_of_days (decimal (neg_ℤ (pos 2)) (pos 0)) ≡ Some 172800 }
 {}
 
-/// One carriage return before a line feed, or at the end of the text, belongs to the line end.
+/// Works out the lines of texts. A line ends at a line feed or with the text. One carriage return right before that end
+/// belongs to the line end; any other stays in the line. The empty text has no line.
 pub fn texts_are_cut_into_lines()
     ensures returns { lines (codes "one\r\ntwo\r") ≡ codes "one" ∷ codes "two" ∷ [] }
     ensures no_feed_at_the_end { lines (codes "one\n\ntwo") ≡ codes "one" ∷ [] ∷ codes "two" ∷ [] }
@@ -60,7 +68,8 @@ pub fn texts_are_cut_into_lines()
     ensures empty { lines [] ≡ [] }
 {}
 
-/// Blanks and tabs part tokens, and a line of them alone counts as a line, but is not read.
+/// Works out the tokens of lines, which blanks and tabs separate. A line of blanks and tabs alone has no token: it
+/// counts in the numbering of lines, here as lines 2 and 3, but is not read.
 pub fn lines_are_cut_into_tokens()
     ensures separators { tokens (codes " \tEMRAT  81\tAU 1 ")
         ≡ codes "EMRAT" ∷ codes "81" ∷ codes "AU" ∷ codes "1" ∷ [] }

@@ -10,7 +10,8 @@ ghost use Rattle.spec_text.specs.declared.decimals.Decimal.{Decimal};
 ghost use Rattle.spec_text.specs.declared.decimals.NumberFault.{NumberFault};
 ghost use Rattle.spec_text.specs.declared.limits.TheConstants.{DAY_SECONDS};
 
-/// Every word is a decimal or has a fault, in one way only: the one that `reading` computes.
+/// States that every word either is a decimal or has a fault, and in one way only: the answer that `reading` computes
+/// is true of the word, and no other is.
 #[tactic(auto, using(crate::proofs::Answering::one_answer, crate::proofs::Answering::reads_reading))]
 pub fn every_word_has_one_answer()
     ensures one { (word : List ℕ) (a b : Result Decimal NumberFault)
@@ -18,25 +19,27 @@ pub fn every_word_has_one_answer()
     ensures computed { (word : List ℕ) → Reads word (reading word) }
 {}
 
-/// A decimal that is read has a `mant` below 10^18 in magnitude, and an `exp` from -139 to 99.
+/// States that every decimal that is read from a word has a `mant` below 10^18 in magnitude and an `exp` from -139 to
+/// 99.
 pub fn decimals_are_bounded()
     ensures { (word : List ℕ) (d : Decimal) → Reads word (Ok d) → IsWithinBounds d }
 {}
 
-/// A whole number that is read is below 10^9.
+/// States that every whole number that is read from a word is below 10^9.
 #[tactic(auto, using(crate::proofs::Wholes::whole_bound))]
 pub fn whole_numbers_are_bounded()
     ensures { (word : List ℕ) (n : ℕ) → whole_of word ≡ Some n → n < 10 ^ 9 }
 {}
 
-/// A number of days that is taken has at most as many seconds as the greatest number of days.
+/// States that a number of days that is accepted as at most `most` days has at most `86,400 * most` seconds.
 #[tactic(auto, using(crate::proofs::Spans::seconds_few))]
 pub fn days_are_bounded()
     ensures { (most : ℕ) (days : Decimal)
         → IfOk (seconds_within most days) (λ seconds. seconds ≤ DAY_SECONDS * most) }
 {}
 
-/// A line ends at its line feed; the last may do without.
+/// States how a text is cut into lines. The empty text has none; bytes up to the first line feed are the first line,
+/// without a carriage return at their end; bytes without a line feed, if there are some, are one last line.
 #[tactic(auto, using(crate::proofs::LineLemmas::first_line, crate::proofs::LineLemmas::last_line))]
 pub fn lines_end_at_line_feeds()
     ensures none { lines [] ≡ [] }
@@ -46,7 +49,8 @@ pub fn lines_end_at_line_feeds()
         → lines line ≡ strip_carriage_return line ∷ [] }
 {}
 
-/// A token ends at a blank or a tab, or with its line.
+/// States how a line is cut into tokens. The empty line has none; a blank or tab at the front is skipped; bytes up to
+/// the next blank or tab, or up to the line's end, are one token.
 #[tactic(auto, using(crate::proofs::TokenLemmas::skip_one, crate::proofs::TokenLemmas::first_token, crate::proofs::TokenLemmas::last_token))]
 pub fn tokens_end_at_separators()
     ensures none { tokens [] ≡ [] }
@@ -59,7 +63,8 @@ pub fn tokens_end_at_separators()
         → tokens word ≡ word ∷ [] }
 {}
 
-/// Lines that are joined with a line feed after each are read back as the same lines, and none of them is skipped.
+/// States that lines that are written one after another, with a line feed after each, are read back as the same lines,
+/// numbered from 1. None of them is blank, so none is skipped.
 #[tactic(auto, using(crate::proofs::Printed::lines_joined, crate::proofs::Printed::text_lines_are))]
 pub fn joined_lines_are_read_back()
     ensures lines { (ls : List (List ℕ)) → AreLines ls → lines (joined_lines ls) ≡ ls }
@@ -67,7 +72,8 @@ pub fn joined_lines_are_read_back()
         → text_lines (joined_lines ls) ≡ numbered_from 1 ls }
 {}
 
-/// A word that is a decimal has at most 40 bytes, all of them printed, and no blank.
+/// States that a word that is read as a decimal is plain: at most 40 bytes, each with a code above that of the blank,
+/// 32.
 pub fn decimals_are_plain()
     ensures { (word : List ℕ) (d : Decimal) → reading word ≡ Ok d → IsPlain word }
 {}

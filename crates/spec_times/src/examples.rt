@@ -6,7 +6,8 @@ ghost use Rattle.spec_times.specs.TimeWords.{time_of};
 ghost use Rattle.spec_times.specs.Ticks.{tick_of, tick_text};
 ghost use Rattle.spec_times.specs.declared.faults.TimeFault.TheVariants.{NotTime, OutOfRange};
 
-/// J2000 is noon; the first time lies in a year below 0, which has a sign and six digits.
+/// Works out the calendar texts of four times in seconds of TDB since J2000: of J2000 itself, which is noon of
+/// 2000-01-01, of the end of a leap day, and of the first and the last time. A year below 0 has a sign and six digits.
 pub fn times_have_texts()
     ensures j2000 { time_text (pos 0) ≡ codes "2000-01-01T12:00:00" }
     ensures leap_day { time_text (pos 5140799) ≡ codes "2000-02-29T23:59:59" }
@@ -14,7 +15,8 @@ pub fn times_have_texts()
     ensures last { time_text LAST_TIME ≡ codes "8977-06-07T12:00:00" }
 {}
 
-/// A whole number may have zeros at its front, and 12 digits.
+/// Works out which words are read as times in whole seconds since J2000. Leading zeros and a minus sign are taken; a
+/// plus sign and a 13th digit are refused, and a time after the last one is out of range.
 #[tactic(none)]
 pub fn whole_numbers_are_times()
     ensures minus { time_of (codes "-1") ≡ Ok (neg_ℤ (pos 1)) }
@@ -25,10 +27,10 @@ pub fn whole_numbers_are_times()
     ensures too_long { time_of (codes "1000000000000") ≡ Err NotTime }
 {}
 
-/// Dates that are not read: 1900 had no leap day, no year is -0, a year without days in `jiff_core` is out of range,
-/// and midnight is hour 0.
+/// Works out calendar texts that stand for no time. 1900-02-29, the year -0, the hour 24 and a year below 0 with four
+/// digits are no times; the year -999999 is a date, but out of range.
 #[tactic(none)]
-pub fn dates_must_exist()
+pub fn words_with_impossible_dates_are_refused()
     ensures no_leap_day { time_of (codes "1900-02-29T00:00:00") ≡ Err NotTime }
     ensures minus_zero { time_of (codes "-000000-01-01T00:00:00") ≡ Err NotTime }
     ensures far { time_of (codes "-999999-01-01T00:00:00") ≡ Err OutOfRange }
@@ -36,17 +38,19 @@ pub fn dates_must_exist()
     ensures few_digits { time_of (codes "-0004-02-29T00:00:00") ≡ Err NotTime }
 {}
 
-/// A time in milliseconds always has its point and three digits.
+/// Works out the calendar texts of times in milliseconds since J2000: of 1, -1 and 0. Such texts always end in a point
+/// and three digits.
 pub fn milliseconds_have_texts()
     ensures after_j2000 { tick_text 1_000 (pos 1) ≡ codes "2000-01-01T12:00:00.001" }
     ensures before_j2000 { tick_text 1_000 (neg_ℤ (pos 1)) ≡ codes "2000-01-01T11:59:59.999" }
     ensures no_fraction { tick_text 1_000 (pos 0) ≡ codes "2000-01-01T12:00:00.000" }
 {}
 
-/// A whole number counts seconds, in milliseconds too. A fraction has a point and three digits, stands after the calendar
-/// form alone, and is read in milliseconds alone; the limits are those in milliseconds.
+/// Works out which words are read as times if a second has 1,000 ticks. A whole number counts seconds, so `-5` is
+/// -5,000; a calendar text may have a point and three digits. Two digits, a point after a number, and any fraction at
+/// one tick a second are refused.
 #[tactic(none)]
-pub fn words_in_milliseconds()
+pub fn words_are_read_in_milliseconds()
     ensures whole_number { tick_of 1_000 (codes "-5") ≡ Ok (neg_ℤ (pos 5_000)) }
     ensures fraction { tick_of 1_000 (codes "2000-02-29T23:59:59.500") ≡ Ok (pos 5_140_799_500) }
     ensures no_fraction { tick_of 1_000 (codes "2000-02-29T23:59:59") ≡ Ok (pos 5_140_799_000) }

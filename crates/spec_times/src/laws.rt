@@ -6,8 +6,8 @@ ghost use Rattle.spec_times.specs.declared.calendar.CalendarTime.{CalendarTime};
 ghost use Rattle.spec_times.specs.TimeWords.{IsTime, time_of, time_within, whole_time};
 ghost use Rattle.spec_times.specs.Ticks.{IsTimeIn, tick_of, tick_text};
 
-/// Each day from -9999-01-01 to 9999-12-31 has one date of the calendar, and that date has the day's number.
-
+/// States that each day from -9999-01-01 to 9999-12-31, numbered from 1970-01-01, has a date of the calendar from which
+/// its number is found again, and that two dates with the same number are the same date.
 pub fn days_have_one_date()
     ensures civil { (day : ℤ) → IsEpochDay day
         → IsCivilDate (year_of day) (month_of day) (day_of_month day) }
@@ -18,34 +18,37 @@ pub fn days_have_one_date()
         → (y ≡ other) × (m ≡ month) × (d ≡ day) }
 {}
 
-/// A time from Julian date 0 to Julian date 5,000,000 is that of its calendar time, which the calendar has. Its text
-/// is read back as the time.
+/// States that each time from Julian date 0 to 5,000,000, in seconds since J2000, has a date and time of day that the
+/// calendar has and that stand for this time, and that its calendar text is read back as this time.
 pub fn times_are_read_back()
     ensures calendar { (time : ℤ) → IsTime time → is_calendar_time (calendar_time time) ≡ true }
     ensures shown { (time : ℤ) → IsTime time → time_of_calendar (calendar_time time) ≡ time }
     ensures read { (time : ℤ) → IsTime time → time_of (time_text time) ≡ Ok time }
 {}
 
-/// The text of every date and time of day is read as its time, or as out of range. So only a word with a date of the
-/// calendar is out of range.
+/// States that the text of every date and time of day of the calendar, for years from -999,999 to 9,999, is read as its
+/// time, or as out of range if that lies before the first or after the last time. It is never refused for its form.
 pub fn calendar_texts_are_read()
     ensures { (c : CalendarTime) → is_calendar_time c ≡ true → neg_ℤ (pos 999_999) ≤ℤ c.year
         → c.year ≤ℤ pos 9_999 → time_of (calendar_text c) ≡ time_within c }
 {}
 
-/// A word that is read as a time is a whole number, or it is the text of that time, byte for byte.
-pub fn words_of_a_time()
+/// States that a word that is read as a time in seconds has one of two forms: a whole number of seconds, or the
+/// calendar text of that time, byte for byte.
+pub fn times_are_read_from_two_forms()
     ensures { (word : List ℕ) (time : ℤ) → time_of word ≡ Ok time
         → (whole_time word ≡ Some time) ⊎ (word ≡ time_text time) }
 {}
 
-/// Where a tick is a second, times have the texts and the words that they have in seconds.
+/// States that if a second has one tick, times in ticks have the texts of times in seconds, and words are read as the
+/// same times.
 pub fn seconds_are_ticks()
     ensures texts { (t : ℤ) → tick_text 1 t ≡ time_text t }
     ensures words { (word : List ℕ) → tick_of 1 word ≡ time_of word }
 {}
 
-/// The text of a time in milliseconds from Julian date 0 to Julian date 5,000,000 is read as the time.
+/// States that the calendar text of each time in milliseconds since J2000, from Julian date 0 to 5,000,000, is read
+/// back as that time.
 pub fn milliseconds_are_read_back()
     ensures { (t : ℤ) → IsTimeIn 1_000 t → tick_of 1_000 (tick_text 1_000 t) ≡ Ok t }
 {}

@@ -13,13 +13,17 @@ mod tree;
 mod window;
 
 pub use book::{Book, Booked};
-pub use cut_examples::{cuts_of_spans, leaves_of_eight_units};
+pub use cut_examples::{cuts_are_rounded_down, eight_units_are_cut_into_leaves};
 pub use cut_laws::cuts_lie_inside;
 pub use cuts::CutRule;
-pub use examples::{leaves_of_three_units, leaves_put_in_order, middles, windows_of_five_leaves};
+pub use examples::{
+    entered_leaves_are_put_in_order, five_leaves_make_three_windows, middles_are_rounded_down,
+    three_units_have_three_leaves,
+};
 pub use laws::{
-    a_cover_is_in_order, a_rearranged_cover_is_put_in_order, a_stable_sort_puts_in_order,
-    leaves_cover_the_node, leaves_of_the_parts, windows_are_in_order, windows_from_the_left,
+    a_cover_is_in_order, a_node_has_the_leaves_of_its_parts, a_rearranged_cover_is_put_in_order,
+    a_stable_sort_puts_in_order, a_walk_from_the_left_makes_the_windows, leaves_cover_the_node,
+    windows_are_in_order,
 };
 pub use tree::{Leaf, Mark, Node, Turn, Verdict};
 pub use window::{Holds, Window};

@@ -29,7 +29,7 @@ impl Verdict {
     ghost use Rattle.std.specs.Prelude.{◌≡◌};
     ghost use Rattle.spec_trees.specs.Tree.{mark_of};
 
-    /// Returns the mark of a leaf with this verdict, or none for a node that is to be split.
+    /// Returns the mark that a leaf with this verdict has, or `None` for the verdict `Split`, whose node is no leaf.
     pub fn mark(self) -> Option<Mark>
         ensures { result ≡ mark_of self }
     {

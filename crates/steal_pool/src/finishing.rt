@@ -9,8 +9,8 @@ ghost use Rattle.steal_pool.specs.declared.seat.Stop.TheVariants.{Full, Memory a
 ghost use Rattle.steal_pool.specs.declared.finishing.FinishError.TheVariants.{Memory as NoMemory};
 ghost use Rattle.steal_pool.specs.Pools.{AccountFor, AreLinked, ComeBack, IfTooMany, IsLeftOver, IsRefused, KeepNone, NoneIsOutOfMemory, entered_in};
 
-use crate::adding::add;
-use crate::joining::join_all;
+use crate::adding::add_item;
+use crate::joining::join_all_stealers;
 use crate::seat::{PoolSeat, Stop};
 use crate::view::Naming;
 use gf_edges::Gate;
@@ -30,23 +30,25 @@ pub enum FinishError {
 }
 
 impl<'p, N: Naming, J: Judge, G: Gate> PoolSeat<'p, N, J, G> {
-    // Returns why the seat stopped before its work was done, or none.
-    fn stop(&self) -> Option<Stop>
+    // Returns why the seat stopped before its work was done, or none if it did not stop.
+    fn stop_reason(&self) -> Option<Stop>
         ensures { result ≡ self.now.refusal }
     {
         self.refusal
     }
 
-    // Ends the seat: pops its deque for the last time, and hands back the right to enter leaves.
+    // Ends the seat, and returns its seat of the ledger. Its deque is popped a last time before, for what that shows
+    // of the nodes that were put on it.
     fn end_seat(self) -> LedgerSeat
         ensures { Leaves self.entry result }
     {
-        self.worker.last_pop();
+        self.worker.pop_last_and_drop();
         self.entries
     }
 }
 
-// Returns the worse of two stops. Out of memory is the worst; of two stops at a full ledger, the first counts.
+// Returns the worse of two seats' reasons to stop. Out of memory is worse than a full ledger, which is worse than
+// none. Of two full ledgers the first is returned, with the leaf that was refused then.
 fn worse_stop(first: Option<Stop>, second: Option<Stop>) -> Option<Stop>
     ensures { result ≡ worse first second }
 {
@@ -61,13 +63,14 @@ fn worse_stop(first: Option<Stop>, second: Option<Stop>) -> Option<Stop>
     }
 }
 
-// Returns the worst stop of all seats: out of memory, else the first stop at a full ledger, else none.
+// Returns the worst reason for which one of the seats stopped: out of memory, else the full ledger that the first such
+// seat met. None means that no seat stopped before its work was done.
 fn worst_stop<'p, N: Naming, J: Judge, G: Gate>(seats: &[PoolSeat<'p, N, J, G>]) -> Option<Stop>
     ensures { result ≡ worst_stop seats.now }
 {
     let mut worst = None;
     for seat in seats {
-        worst = worse_stop(worst, seat.stop());
+        worst = worse_stop(worst, seat.stop_reason());
     }
     worst
 }
@@ -80,8 +83,8 @@ fn have_no_stop<'p, N: Naming, J: Judge, G: Gate>(seats: &[PoolSeat<'p, N, J, G>
     worst_stop(seats).is_none()
 }
 
-// Lets each worker in turn work until its own deque is empty, in this thread. Nothing is done where a seat has
-// stopped already, and the next stop ends the loop.
+// Lets each worker in turn work on what is left on its own deque, in this thread. If a seat has stopped before its
+// work was done, nothing is done, and the first seat that stops here ends the loop.
 fn drain_deques<'p, R: Wait, N: Naming, J: Judge, G: Gate>(
     rt: &R,
     seats: &mut [PoolSeat<'p, N, J, G>],
@@ -99,17 +102,19 @@ fn drain_deques<'p, R: Wait, N: Naming, J: Judge, G: Gate>(
     }
 }
 
-// Joins all stealers, then lets each worker in turn work off what is left on its own deque.
+// Joins all stealers into the seats whose deques they took from, then lets each worker in turn work on what is left on
+// its own deque, unless a seat has stopped before.
 fn end_work<'p, R: Wait, N: Naming, J: Judge, G: Gate>(rt: &R, seats: &mut [PoolSeat<'p, N, J, G>])
     requires linked { AreLinked seats.old }
     requires left { AllByRecursion (IsLeft N.rules) seats.old }
     ensures { Ended N.rules seats.old seats.new }
 {
-    join_all(seats);
+    join_all_stealers(seats);
     drain_deques(rt, seats);
 }
 
-// Ends every seat, in order, and collects the rights to enter leaves. The only error is out of memory.
+// Ends every seat of a pool, and returns the ledger's seats that they held, in the same order. The only error is out of
+// memory.
 fn end_seats<'p, N: Naming, J: Judge, G: Gate>(
     alloc: Global,
     seats: Vec<PoolSeat<'p, N, J, G>>,
@@ -118,13 +123,13 @@ fn end_seats<'p, N: Naming, J: Judge, G: Gate>(
 {
     let mut entries = Vec::new(alloc);
     for seat in seats {
-        add(&mut entries, seat.end_seat())?;
+        add_item(&mut entries, seat.end_seat())?;
     }
     Ok(entries)
 }
 
-// Returns the ledger's seats where no seat stopped. Else it returns the worst stop as an error, and gives the seats
-// back with `TooMany`.
+// Returns the ledger's seats of an ended pool, if no seat stopped early, so `worst` is none. Else the error says why
+// the pool stopped: `TooMany`, with the ledger's seats and the refused leaf, for a full ledger, or `Memory`.
 fn seats_or_stop(
     worst: Option<Stop>,
     entries: Vec<LedgerSeat>,
@@ -144,10 +149,9 @@ fn seats_or_stop(
     }
 }
 
-/// Ends a pool, whose seats have all worked, and hands the ledger's seats back in order. Every stealer is joined.
-/// Where no seat stopped before its work was done, each worker works off its own deque. Else it returns `Memory` if a
-/// seat ran out of memory, or `TooMany` with the leaf of the first seat that met a full ledger. It waits for the
-/// ledger's lock.
+/// Ends a pool whose seats have all worked, and returns the ledger's seats in order. All stealers are joined, and each
+/// worker empties its own deque, unless a seat stopped early. Then the error is `Memory` if a seat ran out of it. Else
+/// it is `TooMany`, with the leaf of the first seat that met a full ledger. The call waits for the ledger's lock.
 pub fn finish<'p, R: Wait, N: Naming, J: Judge, G: Gate>(
     rt: &R,
     alloc: Global,

@@ -11,7 +11,7 @@ use gf_edges::Gate;
 use halving::Judge;
 
 impl<'p, N: Naming, J: Judge, G: Gate> PoolSeat<'p, N, J, G> {
-    // Gives the seat's last stealer away, or returns none where it has no stealer.
+    // Removes the last stealer of the seat's list and returns it, or returns none if the seat has no stealer.
     fn give_stealer(&mut self) -> Option<Stealer<N>>
         ensures { MatchOption result ((self.old.worker.stealers ≡ []) × (self.new ≡ self.old))
             (λ e. GivesStealer e self.old self.new) }
@@ -19,7 +19,8 @@ impl<'p, N: Naming, J: Judge, G: Gate> PoolSeat<'p, N, J, G> {
         self.worker.give_stealer()
     }
 
-    // Joins a stealer, which is on this seat's deque, into it: what the stealer took counts as taken by the seat.
+    // Joins a stealer on this seat's deque into the seat, which made it: the nodes that the stealer took count from
+    // now on as taken by the seat.
     fn join_stealer(&mut self, stealer: Stealer<N>)
         requires ours { stealer.deque ≡ self.old.worker.own.deque }
         requires made { 0 < self.old.worker.own.view.made }
@@ -29,8 +30,9 @@ impl<'p, N: Naming, J: Judge, G: Gate> PoolSeat<'p, N, J, G> {
     }
 }
 
-// Joins the last stealer of seat `i` into the owner of its deque. False where the seat has no stealer.
-fn join_last<'p, N: Naming, J: Judge, G: Gate>(
+// Takes the last stealer of seat `i` away, and joins it into the seat whose deque it is on. Returns false, and changes
+// nothing, if seat `i` has no stealer.
+fn join_last_stealer<'p, N: Naming, J: Judge, G: Gate>(
     seats: &mut [PoolSeat<'p, N, J, G>],
     i: usize,
 ) -> bool
@@ -41,7 +43,7 @@ fn join_last<'p, N: Naming, J: Judge, G: Gate>(
 {
     match seats[i].give_stealer() {
         Some(stealer) => {
-            let owner = stealer.worker() as usize;
+            let owner = stealer.owner_number() as usize;
             seats[owner].join_stealer(stealer);
             true
         }
@@ -49,8 +51,12 @@ fn join_last<'p, N: Naming, J: Judge, G: Gate>(
     }
 }
 
-// Joins every stealer of seat `i` into its deque's owner. All seats together have taken the same nodes, as multisets.
-fn join_seat<'p, N: Naming, J: Judge, G: Gate>(seats: &mut [PoolSeat<'p, N, J, G>], i: usize)
+// Takes every stealer of seat `i` away, and joins each into the seat whose deque it is on. The nodes that all seats
+// together have taken are the same before and after, as multisets.
+fn join_stealers_of_seat<'p, N: Naming, J: Judge, G: Gate>(
+    seats: &mut [PoolSeat<'p, N, J, G>],
+    i: usize,
+)
     requires inside { i < length seats.old }
     requires linked { AreLinked seats.old }
     requires before { NoStealerBefore i seats.old }
@@ -58,17 +64,18 @@ fn join_seat<'p, N: Naming, J: Judge, G: Gate>(seats: &mut [PoolSeat<'p, N, J, G
     ensures joined { Joined seats.old seats.new }
     ensures before { NoStealerBefore (i + 1) seats.new }
 {
-    while join_last(seats, i) {}
+    while join_last_stealer(seats, i) {}
 }
 
-/// Joins every stealer of all seats into its deque's owner, so that no seat has one.
-pub fn join_all<'p, N: Naming, J: Judge, G: Gate>(seats: &mut [PoolSeat<'p, N, J, G>])
+/// Joins every stealer of all seats into the seat whose deque it is on. No seat has a stealer afterwards, so that each
+/// owner alone knows all that was taken from its deque.
+pub fn join_all_stealers<'p, N: Naming, J: Judge, G: Gate>(seats: &mut [PoolSeat<'p, N, J, G>])
     requires linked { AreLinked seats.old }
     ensures linked { AreLinked seats.new }
     ensures joined { Joined seats.old seats.new }
     ensures none { AllByRecursion HasNoStealer seats.new }
 {
     for i in 0..seats.len() {
-        join_seat(seats, i);
+        join_stealers_of_seat(seats, i);
     }
 }

@@ -9,7 +9,7 @@ ghost use Rattle.steal_pool.specs.Pools.{AccountFor, AllBegin, AreLinked, CanMak
 ghost use Rattle.steal_pool.specs.Workers.{new_stealer};
 ghost use Rattle.steal_pool.specs.Stealers.{Linking, Links, LinksOther, Opens, gained, lent};
 
-use crate::adding::add;
+use crate::adding::add_item;
 use crate::seat::PoolSeat;
 use crate::stealer::Stealer;
 use crate::view::Naming;
@@ -22,8 +22,8 @@ use spec_trees::Node;
 use std::alloc::Global;
 
 impl<'p, N: Naming, J: Judge, G: Gate> PoolSeat<'p, N, J, G> {
-    /// Makes a seat with an empty deque of its own and no stealer. The hand may hold a node, which has to be valid.
-    /// The only error is out of memory.
+    /// Makes a seat with an empty deque of its own and no stealer, and with a valid node or nothing in its hand. The
+    /// only error is out of memory.
     pub fn new(
         alloc: Global,
         judge: &'p J,
@@ -49,9 +49,8 @@ impl<'p, N: Naming, J: Judge, G: Gate> PoolSeat<'p, N, J, G> {
         })
     }
 
-    // Makes a stealer on the seat's deque, for another seat. The only error is out of memory. The call stands here
-    // and not on the worker alone, since what is proved of an element of a list goes through calls on the whole
-    // element.
+    // Makes a stealer on the seat's deque, for another seat. The only error is out of memory. It only forwards to the
+    // worker: a proof about an element of a list needs a call on the whole element, not on a field of it.
     fn lend_stealer(&mut self) -> Result<Stealer<N>, Memory>
         ensures made { OnOk result (self.new ≡ lent self.old) }
         ensures stealer { IfOk result (λ e. e ≡ new_stealer self.old.worker) }
@@ -59,7 +58,8 @@ impl<'p, N: Naming, J: Judge, G: Gate> PoolSeat<'p, N, J, G> {
         self.worker.lend_stealer()
     }
 
-    // Keeps a stealer on another seat's deque. The only error is out of memory.
+    // Adds a stealer on another seat's deque to the end of this seat's list of stealers. The only error is out of
+    // memory.
     fn keep_stealer(&mut self, stealer: Stealer<N>) -> Result<(), Memory>
         ensures { OnOk result (self.new ≡ gained self.old stealer) }
     {
@@ -67,15 +67,15 @@ impl<'p, N: Naming, J: Judge, G: Gate> PoolSeat<'p, N, J, G> {
     }
 }
 
-// Returns the node that a new seat starts with: the root for the seat with number 0, else none.
+// Returns the node that a new seat has in its hand: the root for seat number 0, and none for any other.
 fn first_node(root: Node, number: u32) -> Option<Node>
     ensures { result ≡ first_hand root number }
 {
     if number == 0 { Some(root) } else { None }
 }
 
-// Makes the seats, one for each seat of the ledger and in their order, without stealers. The only error is out of
-// memory.
+// Makes a seat of the pool, without stealers, for each seat of the ledger, in the same order. Seat 0 has the root in
+// its hand, and the others hold nothing. The only error is out of memory.
 fn open_seats<'p, N: Naming, J: Judge, G: Gate>(
     alloc: Global,
     judge: &'p J,
@@ -93,12 +93,12 @@ fn open_seats<'p, N: Naming, J: Judge, G: Gate>(
     for entry in entries {
         let hand = first_node(root, entry.number());
         let seat = PoolSeat::new(alloc, judge, ledger, entry, hand, gate)?;
-        add(&mut seats, seat)?;
+        add_item(&mut seats, seat)?;
     }
     Ok(seats)
 }
 
-// Gives seat `i` a stealer on the deque of seat `j`. The only error is out of memory.
+// Makes a stealer on the deque of seat `j`, and gives it to seat `i`. The only error is out of memory.
 fn link_pair<'p, N: Naming, J: Judge, G: Gate>(
     seats: &mut [PoolSeat<'p, N, J, G>],
     i: usize,
@@ -111,7 +111,8 @@ fn link_pair<'p, N: Naming, J: Judge, G: Gate>(
     seats[i].keep_stealer(stealer)
 }
 
-// Gives seat `i` a stealer on the deque of seat `j`, or does nothing where they are the same.
+// Gives seat `i` a stealer on the deque of seat `j`, or does nothing if `i` and `j` are the same seat. The only error
+// is out of memory.
 fn link_unless_same<'p, N: Naming, J: Judge, G: Gate>(
     seats: &mut [PoolSeat<'p, N, J, G>],
     i: usize,
@@ -126,7 +127,8 @@ fn link_unless_same<'p, N: Naming, J: Judge, G: Gate>(
     link_pair(seats, i, j)
 }
 
-// Gives seat `i` a stealer on the deque of each other seat. The only error is out of memory.
+// Gives seat `i` a stealer on the deque of each other seat, in order. The seats before `i` have theirs already. The
+// ledger and the root are passed for the contract alone. The only error is out of memory.
 fn link_seat<'p, N: Naming, J: Judge, G: Gate>(
     ledger: &SpanLedger,
     root: Node,
@@ -143,8 +145,9 @@ fn link_seat<'p, N: Naming, J: Judge, G: Gate>(
     Ok(())
 }
 
-// Gives each seat a stealer on the deque of each other seat. The only error is out of memory.
-fn link_all<'p, N: Naming, J: Judge, G: Gate>(
+// Gives each seat a stealer on the deque of each other seat, in order. The ledger and the root are passed for the
+// contract alone, which says how the seats begin. The only error is out of memory.
+fn link_all_seats<'p, N: Naming, J: Judge, G: Gate>(
     ledger: &SpanLedger,
     root: Node,
     seats: &mut [PoolSeat<'p, N, J, G>],
@@ -159,9 +162,9 @@ fn link_all<'p, N: Naming, J: Judge, G: Gate>(
     Ok(())
 }
 
-/// Makes the seats of a pool, one for each seat of the ledger, with the root in the hand of the first. Each has a
-/// deque of its own, which takes 64 nodes without allocating, and a stealer on the deque of each other seat. The only
-/// error is out of memory.
+/// Makes the seats of a pool, one for each seat of the ledger, in the same order. The first has the root in its hand,
+/// and the others hold nothing. Each has a deque of its own, which takes 64 nodes without allocating, and a stealer on
+/// each other deque. The only error is out of memory.
 pub fn make<'p, N: Naming, J: Judge, G: Gate>(
     alloc: Global,
     judge: &'p J,
@@ -178,6 +181,6 @@ pub fn make<'p, N: Naming, J: Judge, G: Gate>(
     ensures account { IfOk result (λ v. AccountFor N.rules root v.items) }
 {
     let mut seats = open_seats(alloc, judge, ledger, entries, root, gate)?;
-    link_all(ledger, root, seats.as_mut_slice())?;
+    link_all_seats(ledger, root, seats.as_mut_slice())?;
     Ok(seats)
 }

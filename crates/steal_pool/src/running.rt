@@ -29,25 +29,27 @@ use std::thread::Threads;
 const MAX_THREADS: usize = 64;
 
 impl<'p, N: Naming, J: Judge, G: Gate> PoolSeat<'p, N, J, G> {
-    // Starts the work on the root, which is in the hand: passes the gate and judges it. A root that is to be split is
-    // split where other workers wait for its right part. Out of memory is ignored here, since `work` meets it again.
+    // Starts the work on the root, which is in the seat's hand, before other threads start: passes the gate, and
+    // judges the root. If the pool is `shared` with other workers, a root that is to be split is split, so that they
+    // find a node at once. Out of memory is ignored here, since the seat's `work` splits the root again and meets it
+    // then.
     fn start_with_root(&mut self, root: Node, shared: bool)
         requires hand { self.old.worker.hand ≡ Some root }
         requires valid { IsValid N.rules root }
         ensures later { IsLater N.rules self.old self.new }
         ensures refusal { self.new.refusal ≡ self.old.refusal }
     {
-        let None = self.verdict(root) else {
+        let None = self.judge_node(root) else {
             return;
         };
         if !shared {
             return;
         }
-        let _ = self.split(root);
+        let _ = self.split_node(root);
     }
 
-    // Works until nothing is left to do or the seat is refused. The result is dropped, since the seat keeps why it
-    // stopped.
+    // Works until the seat finds no more nodes or stops before its work is done. The result is dropped, since the seat
+    // itself keeps why it stopped.
     fn work_to_end<R: Wait>(&mut self, rt: &R)
         requires free { self.old.refusal ≡ None }
         ensures { HasWorked N.rules self.old self.new }
@@ -56,8 +58,9 @@ impl<'p, N: Naming, J: Judge, G: Gate> PoolSeat<'p, N, J, G> {
     }
 }
 
-// Lets the seats work at once, the last in this thread and each other in a thread of its own.
-fn work_each<R: Threads + Wait + Sync, N: Naming + Send + Sync, J: Judge, G: Gate>(
+// Lets all seats work to their end at the same time: the last of the list in this thread, each other in a thread of its
+// own. All threads have ended when the call returns.
+fn work_with_last_here<R: Threads + Wait + Sync, N: Naming + Send + Sync, J: Judge, G: Gate>(
     rt: &R,
     seats: &mut [PoolSeat<N, J, G>],
 )
@@ -75,9 +78,10 @@ fn work_each<R: Threads + Wait + Sync, N: Naming + Send + Sync, J: Judge, G: Gat
     );
 }
 
-// Lets all seats work at once, the first in this thread. It has the root or its left part in its hand, so it need not
-// wait until threads are made. The seats are reversed meanwhile, as `work_each` wants them.
-fn work_all<R: Threads + Wait + Sync, N: Naming + Send + Sync, J: Judge, G: Gate>(
+// Lets all seats work to their end at the same time: the first of the list in this thread, since it has the root or its
+// left part in its hand and so need not wait until threads are made. The list is reversed for the time of the call,
+// since `for_each_mut` works on the last of a list in the calling thread.
+fn work_with_first_here<R: Threads + Wait + Sync, N: Naming + Send + Sync, J: Judge, G: Gate>(
     rt: &R,
     seats: &mut [PoolSeat<N, J, G>],
 )
@@ -85,11 +89,12 @@ fn work_all<R: Threads + Wait + Sync, N: Naming + Send + Sync, J: Judge, G: Gate
     ensures worked { AllZip (HasWorked N.rules) seats.old seats.new }
 {
     seats.reverse();
-    work_each(rt, seats);
+    work_with_last_here(rt, seats);
     seats.reverse();
 }
 
-// Lets the first seat, which has the root in its hand, start; then lets all seats work at once.
+// Lets the first seat, which has the root in its hand, judge the root and split it for the others, and then lets all
+// seats work to their end at the same time.
 fn begin_and_work<R: Threads + Wait + Sync, N: Naming + Send + Sync, J: Judge, G: Gate>(
     rt: &R,
     seats: &mut [PoolSeat<N, J, G>],
@@ -104,10 +109,11 @@ fn begin_and_work<R: Threads + Wait + Sync, N: Naming + Send + Sync, J: Judge, G
 {
     let shared = seats.len() > 1;
     seats[0].start_with_root(root, shared);
-    work_all(rt, seats);
+    work_with_first_here(rt, seats);
 }
 
-// Makes the seats of a pool over a ledger, and returns them once all have worked. The only error is out of memory.
+// Makes the seats of a pool for the seats of a ledger, lets them all work at the same time, and returns them once each
+// has found no more nodes or has stopped early. The only error is out of memory while the seats are made.
 fn make_and_work<'p, R: Threads + Wait + Sync, N: Naming + Send + Sync, J: Judge, G: Gate>(
     rt: &R,
     alloc: Global,
@@ -130,7 +136,7 @@ fn make_and_work<'p, R: Threads + Wait + Sync, N: Naming + Send + Sync, J: Judge
     Ok(seats)
 }
 
-// Closes a ledger, all of whose seats have come back, and returns its book.
+// Closes a ledger, of which all seats are given back, and returns the book of its entries. It cannot fail then.
 fn close_ledger(ledger: SpanLedger, seats: Vec<LedgerSeat>) -> Book
     requires all { AreAll ledger seats.items }
     ensures root { result.root ≡ (terms ledger).root }
@@ -143,7 +149,8 @@ fn close_ledger(ledger: SpanLedger, seats: Vec<LedgerSeat>) -> Book
     book
 }
 
-// Returns the book that an ended pool leaves, or why there is none. No leaf stands in it twice.
+// Closes the ledger of a pool that `ended` with its seats or an error, and returns its book: each leaf of the root
+// once. The error is `TooMany` if the ledger was full for a leaf, or `Memory`.
 fn book_or_error<N: Naming>(
     ledger: SpanLedger,
     root: Node,
@@ -175,7 +182,9 @@ fn book_or_error<N: Naming>(
     }
 }
 
-// Runs over nodes that are valid by the rules that `N` names. The rest is as `run` says.
+// Returns the book of the leaves of a root, each entered once by 1 to 64 workers. `N` is the name of the rules by which
+// the nodes under the root are valid; `run` picks it. The error is `TooMany` if there are more than `limit` leaves, or
+// `Memory`.
 fn run_by_naming<R: Threads + Wait + Sync, N: Naming + Send + Sync, J: Judge, G: Gate>(
     rt: &R,
     alloc: Global,
@@ -205,9 +214,10 @@ fn run_by_naming<R: Threads + Wait + Sync, N: Naming + Send + Sync, J: Judge, G:
     book_or_error::<N>(ledger, root, ended)
 }
 
-/// Returns the leaves of a valid root, each entered once by up to 64 workers that run at once. In order of time they
-/// are the root's leaves from left to right. The error is `TooMany` where there are more than `limit`, or `Memory`.
-/// The gate is passed before each judging, and by the first worker once more for the root, before the others start.
+/// Returns the book of the leaves of a valid root's tree, each entered once by 1 to 64 workers that work at the same
+/// time. In order of time they are the tree's leaves from left to right. The error is `TooMany` if there are more than
+/// `limit` leaves, or `Memory`. Each worker passes the gate before each node that it judges. The first judges the root
+/// before the others start, and once more in its work if the root is not split then.
 pub fn run<R: Threads + Wait + Sync, J: Judge, G: Gate>(
     rt: &R,
     alloc: Global,

@@ -26,7 +26,8 @@ pub enum Stop {
 }
 
 impl Stop {
-    /// Returns the error of a run whose seat stopped for this reason.
+    /// Returns the error with which a seat's work ends that stopped for this reason: `TooMany` for a full ledger,
+    /// `Memory` for out of memory.
     pub fn error(self) -> PoolError
         ensures { result ≡ error_of self }
     {

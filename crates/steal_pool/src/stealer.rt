@@ -39,7 +39,7 @@ pub struct Attempts {
 }
 
 impl Attempts {
-    /// Returns the attempts of a search that starts: 10,000, at all deques together.
+    /// Returns a new count of the steal attempts for one search for a node: 10,000 are left, for all deques together.
     pub fn of_search() -> Attempts
         ensures { result.left ≡ 10000 }
     {
@@ -48,16 +48,16 @@ impl Attempts {
 }
 
 impl<N: Naming> Stealer<N> {
-    /// Returns the number of the worker that owns the deque.
-    pub fn worker(&self) -> u32
+    /// Returns the number of the worker that owns the deque from which this stealer takes nodes.
+    pub fn owner_number(&self) -> u32
         ensures { result ≡ self.now.worker }
     {
         self.number
     }
 
-    // Tries once to take the node at the front of the deque, and uses up one attempt. Others may have taken it
-    // meanwhile.
-    fn attempt(&mut self, attempts: &mut Attempts) -> Steal<Node>
+    // Tries once to take the node at the front of the deque, and uses up one attempt. The answer is the node, `Empty`,
+    // or `Retry` if another worker took from the deque meanwhile, which may then still hold nodes.
+    fn try_steal(&mut self, attempts: &mut Attempts) -> Steal<Node>
         requires some { 0 < attempts.old.left }
         ensures taken { MatchSteal result (self.new ≡ self.old) (self.new ≡ self.old)
             (λ n. (self.new ≡ takes_one self.old n) × IsValid N.rules n) }
@@ -67,15 +67,16 @@ impl<N: Naming> Stealer<N> {
         self.reader.steal_as::<Steals<N>>(&mut self.pass)
     }
 
-    /// Takes the node at the front of the deque. It tries again while others take from the same deque and attempts
-    /// are left. None where the deque is empty or no attempt is left.
+    /// Takes the node at the front of the deque and returns it. If another worker takes from the deque at the same
+    /// time, it tries again while attempts are left. None means that the deque was found empty or that no attempt is
+    /// left.
     pub fn steal(&mut self, attempts: &mut Attempts) -> Option<Node>
         ensures taken { IfSome result (λ n. (self.new ≡ takes_one self.old n) × IsValid N.rules n) }
         ensures none { IfNone result (self.new ≡ self.old) }
         ensures fewer { attempts.new.left ≤ attempts.old.left }
     {
         while attempts.left > 0 {
-            match self.attempt(attempts) {
+            match self.try_steal(attempts) {
                 Steal::Success(node) => return Some(node),
                 Steal::Empty => return None,
                 Steal::Retry => {}

@@ -20,9 +20,9 @@ impl Naming for Brand {
     ghost rules = { no_rules };
 }
 
-/// What an end of a deque knows: whether it is its owner's (1 or 0), how many stealers the owner has made and not joined,
-/// whether it is such a stealer (1 or 0), and the nodes that were put and taken by it. Contracts alone speak of it; no
-/// value of it is made.
+/// What an end of a deque knows: whether it is its owner's (1 or 0), how many stealers the owner has made and not
+/// joined, whether it is such a stealer (1 or 0), and the nodes that were put and taken by it. Contracts alone speak
+/// of it; no value of it is made.
 pub struct DequeView {
     pub owner: u64,
     pub made: u64,

@@ -20,8 +20,8 @@ use spec_pool::Entry;
 use spec_trees::Leaf;
 use std::sync::Wait;
 
-// Returns why a seat stops after the ledger's answer for a leaf: a full ledger or out of memory. None where the leaf
-// stands in the ledger.
+// Returns why a seat has to stop after the ledger's answer for a leaf: a full ledger, with the leaf, or out of memory.
+// None if the leaf is in the ledger, entered now or before.
 fn stop_after(entry: Entry, leaf: Leaf) -> Option<Stop>
     ensures { result ≡ stop_at entry leaf }
 {
@@ -33,10 +33,9 @@ fn stop_after(entry: Entry, leaf: Leaf) -> Option<Stop>
 }
 
 impl<'p, N: Naming, J: Judge, G: Gate> PoolSeat<'p, N, J, G> {
-    /// Puts away the right part of the node in the hand, which is to be split; the left part stays in the hand. It
-    /// goes to the back of the own deque (`OnDeque`), or else on the own local stack (`Kept`). The local stack takes
-    /// it where the deque is full, and where 64 nodes were put on the deque in a row, without a pop of its owner that
-    /// gave nothing.
+    /// Splits the node in the hand: the left part stays in the hand, and `right`, the right part, goes to the back of
+    /// the own deque (`OnDeque`). It goes on the local stack instead (`Kept`) if the deque is full, or took 64 nodes
+    /// in a row without a pop that gave nothing. If memory is out, `right` comes back and nothing changes.
     pub fn push(&mut self, right: Node) -> Pushed
         requires right { IsRight N.rules self.old.worker right }
         ensures deque { result ≡ OnDeque → Changes (PutsRight N.rules right) self.old self.new }
@@ -59,12 +58,11 @@ impl<'p, N: Naming, J: Judge, G: Gate> PoolSeat<'p, N, J, G> {
         self.worker.push(left, right)
     }
 
-    /// Takes the next node into the empty hand: the top of the own local stack; where that is empty, the front of the own
-    /// deque, the node put there right after those that are gone; where that gives none, a node of another worker's
-    /// deque, by at most 10,000 steal attempts at all of these, in at most 50 sweeps over them, after each of which other
-    /// threads may run. Where 64 nodes were put on the own deque in a row and it was stolen empty, it is popped before the
-    /// local stack is looked at, so that it takes nodes again. Nothing is said of the other deques where none is found.
-    /// It does not allocate, and waits for nobody.
+    /// Takes the next node into the empty hand: the top of the local stack, else the front of the own deque, else a
+    /// node of another deque. Other deques are tried by at most 10,000 steal attempts in at most 50 sweeps, with other
+    /// threads let run after each sweep. If the own deque took 64 nodes in a row and was stolen empty, it is popped
+    /// first, so that it takes nodes again. None means that stack and own deque are empty, and says nothing of the
+    /// other deques. The call does not allocate, and waits for nobody.
     pub fn take(&mut self) -> Option<Node>
         requires empty { self.old.worker.hand ≡ None }
         ensures taken { IfSome result (λ n. Changes (Gets n) self.old self.new) }
@@ -80,7 +78,7 @@ impl<'p, N: Naming, J: Judge, G: Gate> PoolSeat<'p, N, J, G> {
         self.worker.take()
     }
 
-    /// Returns the node in the hand, or none. It is the node whose right part `push` puts away.
+    /// Returns the node in the seat's hand, or none if the hand is empty. `push` takes the right part of this node.
     pub fn node(&self) -> Option<Node>
         ensures hand { result ≡ self.now.worker.hand }
         ensures valid { IfSome result (IsValid N.rules) }
@@ -88,16 +86,16 @@ impl<'p, N: Naming, J: Judge, G: Gate> PoolSeat<'p, N, J, G> {
         self.worker.node()
     }
 
-    // Keeps why the seat stops.
-    fn refuse(&mut self, stop: Stop)
+    // Records in the seat the reason why it stops, for the end of the pool.
+    fn note_stop(&mut self, stop: Stop)
         ensures { self.new ≡ with_refusal self.old (Some stop) }
     {
         self.refusal = Some(stop);
     }
 
-    // Enters the leaf of the node in the hand, and empties the hand. The error is a full ledger or out of memory; the
-    // hand keeps its node then. It waits for the ledger's lock.
-    fn enter<R: Wait>(&mut self, rt: &R, leaf: Leaf) -> Result<(), Stop>
+    // Enters `leaf`, which is the node in the hand with its mark, into the ledger, and empties the hand. The error is
+    // a full ledger or out of memory, and the hand keeps its node then. The call waits for the ledger's lock.
+    fn enter_leaf<R: Wait>(&mut self, rt: &R, leaf: Leaf) -> Result<(), Stop>
         requires hand { self.old.worker.hand ≡ Some leaf.node }
         requires leaf { IsLeaf N.rules leaf }
         ensures entered { OnOk result (Changes (EntersNode N.rules) self.old self.new) }
@@ -118,9 +116,10 @@ impl<'p, N: Naming, J: Judge, G: Gate> PoolSeat<'p, N, J, G> {
         }
     }
 
-    // Splits the node in the hand: the left part stays in the hand, the right part goes on the deque or on the local
-    // stack. The only error is out of memory; the hand keeps the node then.
-    pub(crate) fn split(&mut self, node: Node) -> Result<(), Stop>
+    // Splits `node`, which is in the hand: its left part stays in the hand, its right part goes on the own deque or,
+    // if the deque takes no more, on the local stack. The only error is out of memory, and the hand keeps the node
+    // then.
+    pub(crate) fn split_node(&mut self, node: Node) -> Result<(), Stop>
         requires hand { self.old.worker.hand ≡ Some node }
         requires valid { IsValid N.rules node }
         requires split { N.rules.verdict node ≡ Split }
@@ -140,8 +139,9 @@ impl<'p, N: Naming, J: Judge, G: Gate> PoolSeat<'p, N, J, G> {
         }
     }
 
-    // Passes the gate, judges the node and returns the mark of a leaf, or none for a node that is to be split.
-    pub(crate) fn verdict(&self, node: Node) -> Option<Mark>
+    // Passes the pool's gate, then judges a valid node. Returns the mark of a leaf, or none for a node that is to be
+    // split.
+    pub(crate) fn judge_node(&self, node: Node) -> Option<Mark>
         requires valid { IsValid N.rules node }
         ensures { result ≡ mark_of (N.rules.verdict node) }
     {
@@ -149,8 +149,8 @@ impl<'p, N: Naming, J: Judge, G: Gate> PoolSeat<'p, N, J, G> {
         self.judge.judge(node).mark()
     }
 
-    // Judges the node in the hand, and enters it as a leaf or splits it. The error is a full ledger or out of memory;
-    // the hand keeps the node then.
+    // Judges `node`, which is in the hand, and enters it into the ledger as a leaf or splits it. The error is a full
+    // ledger or out of memory, and the hand keeps the node then. The call waits for the ledger's lock.
     fn work_on_node<R: Wait>(&mut self, rt: &R, node: Node) -> Result<(), Stop>
         requires hand { self.old.worker.hand ≡ Some node }
         requires valid { IsValid N.rules node }
@@ -161,13 +161,14 @@ impl<'p, N: Naming, J: Judge, G: Gate> PoolSeat<'p, N, J, G> {
         ensures holds { IfErr result (λ e. self.new.worker.hand ≡ self.old.worker.hand) }
         ensures full { IfErr result (λ stop. IfFull stop (λ leaf. IsFullOf N.rules leaf self.new)) }
     {
-        match self.verdict(node) {
-            Some(mark) => self.enter(rt, Leaf { node, mark }),
-            None => self.split(node),
+        match self.judge_node(node) {
+            Some(mark) => self.enter_leaf(rt, Leaf { node, mark }),
+            None => self.split_node(node),
         }
     }
 
-    // Returns the node in the hand, or takes the next one into the hand. None where no node is found.
+    // Returns the node in the hand. If the hand is empty, it takes the next node into it first: from the local stack,
+    // the own deque or another deque. None if none of them gives one.
     fn next_node(&mut self) -> Option<Node>
         ensures hand { result ≡ self.new.worker.hand }
         ensures valid { IfSome result (IsValid N.rules) }
@@ -186,9 +187,10 @@ impl<'p, N: Naming, J: Judge, G: Gate> PoolSeat<'p, N, J, G> {
         }
     }
 
-    /// Works on the node in the hand and on all nodes that it takes, until it finds none or is refused. The gate is
-    /// passed before each judging. After a refusal the hand still holds the last node, and the seat keeps why it
-    /// stopped, with the leaf for which the ledger was full. It waits for the ledger's lock.
+    /// Works on the node in the hand and on all nodes that it then takes: each is entered into the ledger as a leaf or
+    /// is split. It ends when no node is found, or with an error: `TooMany` if the ledger is full for a leaf, or
+    /// `Memory`. After an error the hand still holds the last node, and the seat keeps why it stopped. The gate is
+    /// passed before each judging. The call waits for the ledger's lock.
     pub fn work<R: Wait>(&mut self, rt: &R) -> Result<(), PoolError>
         requires free { self.old.refusal ≡ None }
         ensures works { Works N.rules self.old self.new }
@@ -206,7 +208,7 @@ impl<'p, N: Naming, J: Judge, G: Gate> PoolSeat<'p, N, J, G> {
             match self.next_node() {
                 Some(node) => {
                     if let Err(stop) = self.work_on_node(rt, node) {
-                        self.refuse(stop);
+                        self.note_stop(stop);
                         return Err(stop.error());
                     }
                 }

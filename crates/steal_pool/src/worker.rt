@@ -6,7 +6,7 @@ ghost use Rattle.steal_pool.specs.Rule.{HasLeft, IsOldest, IsUsedUp};
 ghost use Rattle.steal_pool.specs.Workers.{FindsNone, HasFilled, IsNew, IsReopened, IsSplit, TookOne, Takes, TakesInOrder, TakesKept, TakesOther, TakesOwn, Gives, gains, joins, lends, after_empty_pop, new_stealer, on_deque, on_stack, with_hand};
 ghost use Rattle.steal_pool.specs.declared.worker.Pushed.TheVariants.{OnDeque, Kept, Memory as OutOfMemory};
 
-use crate::adding::add;
+use crate::adding::add_item;
 use crate::stealer::{Attempts, Stealer};
 use crate::view::{Balance, DequeView, Looks, Naming, Puts, StealerSplits, Takes as TakesFront};
 use crossbeam_deque::Worker as Deque;
@@ -30,8 +30,8 @@ pub enum Pushed {
     Memory(Node),
 }
 
-/// A worker and its deque, whose nodes leave in the order in which they came. Contracts see what it has, which deque its
-/// own is, and what was put on it and taken from it.
+/// A worker and its deque, whose nodes leave in the order in which they came. Contracts see what it has, which deque
+/// its own is, and what was put on it and taken from it.
 #[derive(Drop)]
 pub struct Worker<N: Naming> {
     number: u32,
@@ -62,8 +62,9 @@ impl<N: Naming> Model for Worker<N> {
         × (64 ≤ worker_capacity w.deque) };
 }
 
-// Takes the node at the front of the first deque that gives one, while attempts are left. None where no deque does.
-fn steal_from<N: Naming>(stealers: &mut [Stealer<N>], attempts: &mut Attempts) -> Option<Node>
+// Asks each stealer in turn for the node at the front of its deque, and returns the first that one gives. Each ask
+// uses up steal attempts, and none is made once no attempt is left. None if no deque gives a node.
+fn steal_from_any<N: Naming>(stealers: &mut [Stealer<N>], attempts: &mut Attempts) -> Option<Node>
     ensures taken { MatchOption result (stealers.new ≡ stealers.old)
         (λ n. TookOne n stealers.old stealers.new × IsValid N.rules n) }
     ensures fewer { attempts.new.left ≤ attempts.old.left }
@@ -76,15 +77,15 @@ fn steal_from<N: Naming>(stealers: &mut [Stealer<N>], attempts: &mut Attempts) -
     None
 }
 
-// Sweeps over the deques until one gives a node, at most 50 times, and lets other threads run after each sweep. None
-// where no sweep finds a node.
-fn sweep<N: Naming>(stealers: &mut [Stealer<N>], attempts: &mut Attempts) -> Option<Node>
+// Goes over the deques of all stealers, up to 50 times, and returns the first node that one gives. After each time
+// without one, other threads run, which may push nodes. None if no deque gave a node.
+fn sweep_deques<N: Naming>(stealers: &mut [Stealer<N>], attempts: &mut Attempts) -> Option<Node>
     ensures taken { MatchOption result (stealers.new ≡ stealers.old)
         (λ n. TookOne n stealers.old stealers.new × IsValid N.rules n) }
     ensures fewer { attempts.new.left ≤ attempts.old.left }
 {
     for _ in 0..MAX_SWEEPS {
-        if let Some(node) = steal_from(stealers, attempts) {
+        if let Some(node) = steal_from_any(stealers, attempts) {
             return Some(node);
         }
         thread::yield_now();
@@ -93,8 +94,8 @@ fn sweep<N: Naming>(stealers: &mut [Stealer<N>], attempts: &mut Attempts) -> Opt
 }
 
 impl<N: Naming> Worker<N> {
-    /// Makes a worker with this number, an empty deque and no stealer. The hand may hold a node, which has to be
-    /// valid. The only error is out of memory.
+    /// Makes a worker with a number, an empty deque, an empty local stack and no stealer, and with a valid node or
+    /// nothing in its hand. The only error is out of memory.
     pub fn new(alloc: Global, number: u32, hand: Option<Node>) -> Result<Worker<N>, Memory>
         requires hand { (n : Node) → hand ≡ Some n → IsValid N.rules n }
         ensures new { IfOk result (λ w. IsNew number hand w) }
@@ -110,7 +111,7 @@ impl<N: Naming> Worker<N> {
         })
     }
 
-    /// Returns the node in the hand, or none.
+    /// Returns the node in the worker's hand, or none if the hand is empty.
     pub fn node(&self) -> Option<Node>
         ensures hand { result ≡ self.now.hand }
         ensures valid { IfSome result (IsValid N.rules) }
@@ -118,15 +119,16 @@ impl<N: Naming> Worker<N> {
         self.hand
     }
 
-    /// Empties the hand, after its node was entered.
+    /// Empties the hand, whose node was entered as a leaf.
     pub fn clear_hand(&mut self)
         ensures { self.new ≡ with_hand self.old None }
     {
         self.hand = None;
     }
 
-    // Takes the node on top of the local stack into the empty hand. None where the stack is empty.
-    fn take_kept(&mut self) -> Option<Node>
+    // Moves the node on top of the local stack into the empty hand, and returns it. None if the stack is empty, and
+    // nothing changes then.
+    fn take_from_stack(&mut self) -> Option<Node>
         ensures taken { MatchOption result ((self.old.kept ≡ []) × (self.new ≡ self.old))
             (λ n. TakesKept n self.old self.new) }
     {
@@ -139,9 +141,9 @@ impl<N: Naming> Worker<N> {
         }
     }
 
-    // Takes the node at the front of the own deque into the empty hand. Where the deque gives none, 64 nodes may be
-    // put there again.
-    fn take_own(&mut self) -> Option<Node>
+    // Moves the node at the front of the own deque into the empty hand, and returns it. None if the deque gives no
+    // node. The pushes in a row are then counted from 0 again, so that the deque takes 64 more.
+    fn take_from_own_deque(&mut self) -> Option<Node>
         ensures taken { MatchOption result
             (IsUsedUp self.old.own.view × (self.new ≡ after_empty_pop self.old))
             (λ n. IsOldest self.old.own.view n × TakesOwn n self.old self.new) }
@@ -158,9 +160,10 @@ impl<N: Naming> Worker<N> {
         }
     }
 
-    // Takes the node at the front of another worker's deque into the empty hand. None where no search attempt finds
-    // one.
-    fn take_other(&mut self) -> Option<Node>
+    // Takes the node at the front of another worker's deque into the empty hand, and returns it. At most 10,000 steal
+    // attempts are made, in at most 50 sweeps over the deques. None if no attempt gets a node, and nothing changes
+    // then.
+    fn steal_from_others(&mut self) -> Option<Node>
         ensures taken { MatchOption result (self.new ≡ self.old)
             (λ n. TakesOther n self.old self.new) }
     {
@@ -168,7 +171,7 @@ impl<N: Naming> Worker<N> {
             return None;
         }
         let mut attempts = Attempts::of_search();
-        match sweep(self.stealers.as_mut_slice(), &mut attempts) {
+        match sweep_deques(self.stealers.as_mut_slice(), &mut attempts) {
             Some(node) => {
                 self.hand = Some(node);
                 Some(node)
@@ -177,8 +180,8 @@ impl<N: Naming> Worker<N> {
         }
     }
 
-    // Tells whether 64 nodes were put on the own deque since it last gave nothing, and it held none when it was
-    // looked at.
+    // Tells whether the own deque takes no more nodes, since 64 were put there without a pop that gave nothing, though
+    // it is empty: others stole them all.
     fn is_stolen_empty(&mut self) -> bool
         ensures same { self.new ≡ self.old }
         ensures filled { IsTrue result → HasFilled self.old }
@@ -189,49 +192,49 @@ impl<N: Naming> Worker<N> {
         self.deque.len_as::<Looks>() == 0
     }
 
-    // Takes a node of the own deque where it was stolen empty after 64 nodes in a row. The pop, even without a node,
-    // lets the deque take nodes again.
-    fn reopen(&mut self) -> Option<Node>
+    // Pops the own deque if it took 64 nodes in a row and others stole them all: a pop that gives nothing lets it take
+    // 64 nodes again. If the pop does give a node, this goes into the empty hand and is returned, else none.
+    fn reopen_deque(&mut self) -> Option<Node>
         ensures taken { MatchOption result (IsReopened self.old self.new)
             (λ n. HasFilled self.old × IsOldest self.old.own.view n × TakesOwn n self.old self.new) }
     {
         if self.is_stolen_empty() {
-            return self.take_own();
+            return self.take_from_own_deque();
         }
         None
     }
 
-    // Takes the top of the local stack into the empty hand, else a node of the own deque, else one of another deque.
-    // None where all are empty.
+    // Takes the top of the local stack into the empty hand, else the front of the own deque, else the front of another
+    // worker's deque, and returns the node. None if none of them gives one.
     fn take_in_order(&mut self) -> Option<Node>
         ensures taken { MatchOption result (FindsNone self.old self.new)
             (λ n. TakesInOrder n self.old self.new) }
     {
-        if let Some(node) = self.take_kept() {
+        if let Some(node) = self.take_from_stack() {
             return Some(node);
         }
-        if let Some(node) = self.take_own() {
+        if let Some(node) = self.take_from_own_deque() {
             return Some(node);
         }
-        self.take_other()
+        self.steal_from_others()
     }
 
-    /// Takes the next node into the empty hand: the top of the local stack; where that is empty, a node of the own
-    /// deque; where that gives none, a node of another deque, by at most 10,000 steal attempts in at most 50 sweeps
-    /// over these. Where 64 nodes were put on the own deque in a row and it was stolen empty, it is popped first, so
-    /// that it takes nodes again. None where no node is found. It does not allocate.
+    /// Takes the next node into the empty hand and returns it: the top of the local stack, else the front of the own
+    /// deque, else the front of another worker's deque, by at most 10,000 steal attempts in at most 50 sweeps. If the
+    /// own deque took 64 nodes in a row and was stolen empty, it is popped first, so that it takes nodes again. None
+    /// if no node is found. The call does not allocate.
     pub fn take(&mut self) -> Option<Node>
         ensures taken { MatchOption result (FindsNone self.old self.new)
             (λ n. Takes n self.old self.new) }
     {
-        if let Some(node) = self.reopen() {
+        if let Some(node) = self.reopen_deque() {
             return Some(node);
         }
         self.take_in_order()
     }
 
-    // Puts the right part on the own deque, and the left part into the hand. False where 64 nodes were put there
-    // since it last gave nothing, or it is full.
+    // Puts the right part of the node in the hand on the own deque, and the left part into the hand. Returns false, and
+    // changes nothing, if the deque is full or took 64 nodes in a row without a pop that gave nothing.
     fn put_on_deque(&mut self, left: Node, right: Node) -> bool
         requires split { IsSplit N.rules self.old left right }
         requires sound { IsSound N.rules }
@@ -253,7 +256,8 @@ impl<N: Naming> Worker<N> {
         }
     }
 
-    // Puts the right part on the local stack, and the left part into the hand. False where memory is out.
+    // Puts the right part of the node in the hand on the local stack, and the left part into the hand. Returns false,
+    // and changes nothing, if memory is out.
     fn put_on_stack(&mut self, left: Node, right: Node) -> bool
         requires split { IsSplit N.rules self.old left right }
         requires sound { IsSound N.rules }
@@ -269,9 +273,9 @@ impl<N: Naming> Worker<N> {
         }
     }
 
-    /// Puts the right part of the node in the hand on the own deque, or else on the local stack; the left part stays
-    /// in the hand. At most 64 nodes in a row go to the deque without a pop that gives nothing, so it never holds
-    /// more. The right part comes back where memory is out.
+    /// Puts the right part of the node in the hand on the back of the own deque, and keeps the left part in the hand. If
+    /// the deque has taken 64 nodes since a pop last found it empty, the right part goes on the local stack instead. If
+    /// memory is out, the right part is returned and nothing changes.
     pub fn push(&mut self, left: Node, right: Node) -> Pushed
         requires split { IsSplit N.rules self.old left right }
         requires sound { IsSound N.rules }
@@ -290,7 +294,8 @@ impl<N: Naming> Worker<N> {
         Pushed::Memory(right)
     }
 
-    /// Makes a stealer on the own deque, for another worker. The only error is out of memory.
+    /// Makes a stealer on the worker's own deque, by which another worker may take from it. The only error is out of
+    /// memory.
     pub fn lend_stealer(&mut self) -> Result<Stealer<N>, Memory>
         ensures made { OnOk result (self.new ≡ lends self.old) }
         ensures stealer { IfOk result (λ e. e ≡ new_stealer self.old) }
@@ -304,14 +309,14 @@ impl<N: Naming> Worker<N> {
         })
     }
 
-    /// Keeps a stealer on another worker's deque. The only error is out of memory.
+    /// Adds a stealer on another worker's deque to the end of this worker's stealers. The only error is out of memory.
     pub fn keep_stealer(&mut self, stealer: Stealer<N>) -> Result<(), Memory>
         ensures { OnOk result (self.new ≡ gains self.old stealer) }
     {
-        add(&mut self.stealers, stealer)
+        add_item(&mut self.stealers, stealer)
     }
 
-    /// Gives the last stealer away, or returns none where the worker has no stealer.
+    /// Removes the last of the worker's stealers and returns it, or returns none if the worker has no stealer.
     pub fn give_stealer(&mut self) -> Option<Stealer<N>>
         ensures { MatchOption result ((self.old.stealers ≡ []) × (self.new ≡ self.old))
             (λ e. Gives e self.old self.new) }
@@ -319,7 +324,8 @@ impl<N: Naming> Worker<N> {
         self.stealers.pop()
     }
 
-    /// Joins a stealer, which is on the own deque: what it took counts as taken by the worker.
+    /// Joins a stealer on the worker's own deque into the worker: the nodes that the stealer took count as taken by the
+    /// worker.
     pub fn join_stealer(&mut self, stealer: Stealer<N>)
         requires ours { stealer.deque ≡ self.old.own.deque }
         requires made { 0 < self.old.own.view.made }
@@ -328,9 +334,10 @@ impl<N: Naming> Worker<N> {
         self.deque.absorb::<StealerSplits>(stealer.pass);
     }
 
-    /// Pops the own deque for the last time. Where no stealer is out, this shows that what was put there is what was
-    /// taken and, after it in order, what is left.
-    pub fn last_pop(mut self)
+    /// Pops the own deque a last time, and drops the worker with the node that this may give. The pop is there for the
+    /// proof alone: if no stealer is out, it shows that the nodes put on the deque are those taken and then, in order,
+    /// those left.
+    pub fn pop_last_and_drop(mut self)
         ensures { HasLeft self.own.view }
     {
         let _left = self.deque.pop_as::<TakesFront<N>>();

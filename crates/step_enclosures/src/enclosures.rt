@@ -1,4 +1,4 @@
-// The enclosures of the steps of a list over the times of a snapshot, of which the first ones are made.
+// The enclosures of the steps of a list over the times of a snapshot, each made when first asked for.
 ghost use Rattle.std.specs.Prelude.{◌≡◌, ◌<◌, ◌≤◌, length};
 ghost use Rattle.spec_expressions.specs.Term.{Term};
 ghost use Rattle.spec_steps.specs.ColumnTerms.{of_term, sight_of};
@@ -10,8 +10,7 @@ use column_steps::{StepList, fill};
 use ival_core::Enclosure;
 use std::marker::Model;
 
-/// The enclosures of the first steps of a list over the times of a snapshot, as far as there are slots. Each is
-/// made once. Where one is asked for, it is made with those before it that are not made yet.
+/// The enclosures of a list's steps over a snapshot's times, each made once, with all before it, when first asked for.
 #[derive(Drop)]
 pub struct StepEnclosures<'w, 'r, 's, 'e> {
     states: &'r Snapshot<'s, 'e>,
@@ -41,8 +40,7 @@ impl<'w, 'r, 's, 'e> Model for StepEnclosures<'w, 'r, 's, 'e> {
 }
 
 impl<'w, 'r, 's, 'e> StepEnclosures<'w, 'r, 's, 'e> {
-    /// Returns the enclosures of the steps of a list over the times of a snapshot, of which none is made. The slots
-    /// may hold anything.
+    /// Returns the enclosures of a list's steps over a snapshot's times, none made so far. Slots may hold anything.
     #[inline(always)]
     pub fn new(
         states: &'r Snapshot<'s, 'e>,
@@ -72,8 +70,7 @@ impl<'w, 'r, 's, 'e> StepEnclosures<'w, 'r, 's, 'e> {
         self.states
     }
 
-    /// Returns the enclosure over the times of the formula that a step stands for, by the number of the step. The
-    /// step must have a slot.
+    /// Returns the enclosure of the step at `place`: read from its slot, or made now together with those before it.
     #[inline(always)]
     pub fn enclosure(&mut self, place: usize) -> Enclosure
         requires step { place < step_count self.old.steps }
@@ -89,7 +86,7 @@ impl<'w, 'r, 's, 'e> StepEnclosures<'w, 'r, 's, 'e> {
         }
     }
 
-    // Returns the enclosure that a step stands for, and makes those before it that are not made yet.
+    // Makes the enclosures still missing up to `place`, and returns that one. Not inlined, so that reading stays short.
     #[inline(never)]
     fn make(&mut self, place: usize) -> Enclosure
         requires step { place < step_count self.old.steps }

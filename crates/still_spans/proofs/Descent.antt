@@ -5,7 +5,7 @@ use Rattle.std.proofs.lemmas.Int.{ints}
 use Rattle.std.proofs.lemmas.Bool.{and_parts}
 use Rattle.spec_trees.specs.declared.tree.Node.{Node}
 use Rattle.spec_trees.specs.declared.tree.Verdict.TheVariants as V
-use Rattle.spec_trees.specs.Tree.{IsValid}
+use Rattle.spec_trees.specs.Tree.{IsCut, IsValid}
 use Rattle.spec_searches.specs.Found.{rules}
 use Rattle.spec_searches.specs.Search.{Search, IsSearch, parts, verdict_of}
 use Rattle.spec_searches.proofs.Parts.{rules_are_sound}
@@ -49,33 +49,24 @@ told s at low n below inside begins =
     below.same n inside (at_or_after low.a n.a both.0) (earlier n.a low.b both.1)
 
 module _ (s : Search) (is : IsSearch s) (at n : Node) (valid : IsValid (rules s) at) (split : verdict_of s at ≡ V.Split) where
+  cut : IsCut (rules s) at
+  cut = (rules_are_sound s is.view).cut at valid split
+
+  -- a node in one part is cleared by it
+  cleared_by : (b : Bool) (m : Node) → m.a <ℤ m.b → int_lt m.a (parts s at).0.b ≡ b → is_cleared s at m ≡ is_cleared s (if b then (parts s at).0 else (parts s at).1) m
+  cleared_by b m inside e = at_split s is at m valid inside split ∙ ap (λ (b : Bool). is_cleared s (if b then (parts s at).0 else (parts s at).1) m) e
+
   by : (b : Bool) → IsBelow s at (if b then (parts s at).0 else (parts s at).1)
-  by true =
-      let cut = (rules_are_sound s is.view).cut at valid split in
-      let cuts = cut.cuts in
-      let from = cuts.from in
-      let meet = cuts.meet in
-      let to = cuts.to in
-      let right = cut.right.inside in
-      record {
-        from = omega (arith, ints, from);
-        upto = omega (arith, ints, meet, to, right);
-        same = λ m inside from upto.
-            at_split s is at m valid inside split ∙ ap (λ (b : Bool). is_cleared s (if b then (parts s at).0 else (parts s at).1) m) (before m.a (parts s at).0.b upto);
-      }
-  by false =
-      let cut = (rules_are_sound s is.view).cut at valid split in
-      let cuts = cut.cuts in
-      let first = cuts.from in
-      let meet = cuts.meet in
-      let to = cuts.to in
-      let left = cut.left.inside in
-      record {
-        from = omega (arith, ints, first, meet, left);
-        upto = omega (arith, ints, to);
-        same = λ m inside from upto.
-            at_split s is at m valid inside split ∙ ap (λ (b : Bool). is_cleared s (if b then (parts s at).0 else (parts s at).1) m) (not_before m.a (parts s at).0.b (omega (arith, ints, meet, from)));
-      }
+  by true = record {
+    from = let from = cut.cuts.from in omega (arith, ints, from);
+    upto = let meet = cut.cuts.meet in let to = cut.cuts.to in let right = cut.right.inside in omega (arith, ints, meet, to, right);
+    same = λ m inside from upto. cleared_by true m inside (before m.a (parts s at).0.b upto);
+  }
+  by false = record {
+    from = let first = cut.cuts.from in let meet = cut.cuts.meet in let left = cut.left.inside in omega (arith, ints, first, meet, left);
+    upto = let to = cut.cuts.to in omega (arith, ints, to);
+    same = λ m inside from upto. let meet = cut.cuts.meet in cleared_by false m inside (not_before m.a (parts s at).0.b (omega (arith, ints, meet, from)));
+  }
 
   pub part_below : IsBelow s at (part_with (parts s at) n)
   part_below = by (int_lt n.a (parts s at).0.b)

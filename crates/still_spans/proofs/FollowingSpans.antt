@@ -1,6 +1,6 @@
 -- One still span more at the end of those that are found.
 use Rattle.std.proofs.Common.{◌≡◌, suc, ◌-◌, ◌<◌, List, [], ◌∷◌, ◌++◌, All, length, Option, Some, None, Result, Ok, Err, ℤ, pos, negsuc, ◌+ℤ◌, ◌-ℤ◌, ◌≤ℤ◌, ◌<ℤ◌, arith, refl, sym, ap, ◌∙◌, subst}
-use Rattle.std.specs.Prelude.{IfOk, IfSome, Vec, slice_get}
+use Rattle.std.specs.Prelude.{IfOk, IfSome, OnOk, Vec, slice_get}
 use Rattle.std.specs.declared.alloc.Global.{Global}
 use Rattle.std.proofs.lemmas.Int.{ints}
 use Rattle.std.proofs.lemmas.Option.{same_Some}
@@ -30,6 +30,11 @@ sooner from later (x ∷ xs) less order = let after = order.0 in (omega (arith, 
 
 pub passed : (s : Search) (from : ℤ) (xs : List StillSpan) (a b : ℤ) → AreFound s from xs a → a ≤ℤ b → AreFound s from xs b
 passed s from xs a b found later = record { still = found.still; follow = follow_on from xs a b found.follow later }
+
+-- what is found by a call up to b' from a', which are b and a as they are passed on
+pub found_as : {T E : Type 0} (s : Search) (from : ℤ) (xs ys : List StillSpan) (done : Result T E) (a' a b' b : ℤ) → a' ≡ a → b' ≡ b
+    → (AreFound s from xs a' → OnOk done (AreFound s from ys b')) → AreFound s from xs a → OnOk done (AreFound s from ys b)
+found_as s from xs ys done a' a b' b begins ends call found = subst (λ (t : ℤ). OnOk done (AreFound s from ys t)) ends (call (subst (AreFound s from xs) (sym begins) found))
 
 pub added : (s : Search) (from : ℤ) (xs : List StillSpan) (a b : ℤ) (x : StillSpan) → AreFound s from xs a → a <ℤ b → IsStillOver s a b x
     → AreFound s from (xs ++ x ∷ []) b

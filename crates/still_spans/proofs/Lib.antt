@@ -1,6 +1,7 @@
 mod FollowingShares
 mod Begun
 mod Changing
+mod Cutting
 mod Descent
 mod Eager
 mod FollowingNodes
@@ -8,6 +9,7 @@ mod Served
 mod Doubled
 mod Margins
 mod SpanBounds
+mod Halving
 mod Fewest
 mod FollowingSpans
 mod BetweenSpans

@@ -15,6 +15,7 @@ use Rattle.spec_searches.specs.Search.{IsSearch, Search, enclosure_over}
 use Rattle.spec_searches.proofs.Borders.{span_fits}
 use Rattle.spec_searches.proofs.Parts.{first_near, last_near}
 use Rattle.spec_bounds.specs.Steady.{sign_at}
+use Rattle.spec_bounds.proofs.States.{part_fits}
 use Rattle.spec_expressions.specs.Term.{IsFormula, Term}
 use Rattle.spec_steps.specs.ColumnTerms.{of_term, sight_of}
 use Rattle.column_steps.specs.Listed.{IsMadeAt, Listed}
@@ -24,23 +25,7 @@ use Rattle.spec_stills.specs.Margins.{HasMargin, IsAbove, IsBelow, range_at}
 use Rattle.span_models.specs.declared.margin.Margin.{Margin}
 use Rattle.span_models.specs.Margins.{KeepsFrom, margin_of}
 use Rattle.still_spans.specs.declared.known.Known.{Known}
-use Rattle.still_spans.specs.Knowledge.{IsKnown, argument_of, side}
-
--- times within times that fit
-pub fits_within : (v : View) (c d : ℤ) → Fits v c d → (a b : ℤ) → c ≤ℤ a → a ≤ℤ b → b ≤ℤ d → Fits v a b
-fits_within v c d fits a b from ordered upto = record {
-  view = fits.view;
-  ordered = ordered;
-  from = let low = fits.from in omega (arith, ints, low, from);
-  upto = let high = fits.upto in omega (arith, ints, high, upto);
-  no_border = λ t border. fits.no_border t (record {
-    number = border.number;
-    listed = border.listed;
-    border = border.border;
-    after = let after = border.after in omega (arith, ints, after, from);
-    upto = let last = border.upto in omega (arith, ints, last, upto);
-  });
-}
+use Rattle.still_spans.specs.Knowledge.{IsKnown, IsKnownOver, argument_of, side}
 
 -- its times are near J2000
 pub near : (s : Search) (x : Known) → IsKnown s x → (neg_ℤ (pos (2 ^ 50)) ≤ℤ x.first) × (x.last ≤ℤ pos (2 ^ 50))
@@ -51,12 +36,16 @@ near s x is =
     let upto = is.fits.upto in
     (omega (arith, ints, low, from), omega (arith, ints, high, upto))
 
-pub is_argument : (c d t : ℤ) → c <ℤ d → c ≤ℤ t → t ≤ℤ d → IsArgument (argument_of c d t) (d -ℤ c)
+is_argument : (c d t : ℤ) → c <ℤ d → c ≤ℤ t → t ≤ℤ d → IsArgument (argument_of c d t) (d -ℤ c)
 is_argument c d t several from upto = record {
   positive = omega (arith, ints, several);
   low = omega (arith, ints, from);
   high = omega (arith, ints, upto);
 }
+
+-- the argument of a time and the length of the model's times, as they are passed on
+pub passed_argument : (c d t p q : ℤ) → c <ℤ d → c ≤ℤ t → t ≤ℤ d → p ≡ argument_of c d t → q ≡ d -ℤ c → IsArgument p q
+passed_argument c d t p q several from upto at over = rw (at, over) (is_argument c d t several from upto)
 
 -- the numbers near a model keep so far from 0 at each argument between two others
 abbrev pub KeepAll : Model → ℤ → ℤ → ℤ → Margin → Type 0
@@ -107,21 +96,21 @@ module _ (s : Search) (x : Known) (is : IsKnown s x) (a b : ℤ) (from : x.first
       by : (is_above : Bool) → g.is_above ≡ is_above → sign_at s a ≡ (if is_above then Yes else No)
       by true e = above s a b (margin_of g) a positive (pow_pos (down g.exponent)) (is_above e) (omega (arith, ints)) (omega (arith, ints, several))
       by false e =
-          below s a b (margin_of g) a is.search (fits_within s.view x.first x.last is.fits a b from (omega (arith, ints, several)) upto)
+          below s a b (margin_of g) a is.search (part_fits s.view a b x.first x.last is.fits from several upto)
           positive (pow_pos (down g.exponent)) (is_below e) (omega (arith, ints)) (omega (arith, ints, several))
 
 -- of one that may be there
-module _ (s : Search) (x : Known) (is : IsKnown s x) (a b : ℤ) (from : x.first ≤ℤ a) (several : a <ℤ b) (upto : b ≤ℤ x.last) where
+module _ (s : Search) (x : Known) (a b : ℤ) (over : IsKnownOver s x a b) where
   abbrev pub KeepsIfSome : Option Margin → Type 0
   KeepsIfSome found = IfSome found (KeepAll x.model (argument_of x.first x.last a) (argument_of x.first x.last b) (x.last -ℤ x.first))
 
   pub margin_if : (found : Option Margin) → KeepsIfSome found → IfSome found (λ g. HasMargin s a b (margin_of g))
   margin_if None keep = keep
-  margin_if (Some g) keep = has_margin s x is a b from several upto g keep
+  margin_if (Some g) keep = has_margin s x over.known a b over.within.from over.within.several over.within.upto g keep
 
   pub side_if : TellsAbove → TellsBelow → (found : Option Margin) → KeepsIfSome found → IfSome found (λ g. sign_at s a ≡ side g)
   side_if above below None keep = keep
-  side_if above below (Some g) keep = has_side s x is a b from several upto g keep above below
+  side_if above below (Some g) keep = has_side s x over.known a b over.within.from over.within.several over.within.upto g keep above below
 
 -- by what is found of borders
 pub fits_by : (s : Search) (v : View) (e : Ephemeris) (columns : List ℕ) (found : Option ℤ) (a b : ℤ) → IsView s.view → v ≡ s.view → columns ≡ columns_of v → e ≡ s.view.ephemeris
@@ -146,10 +135,14 @@ known_by s m v l place c d c' d' same made first last is fits several covers = r
       subst (λ x. Covers m (argument_of c' d' t) (d' -ℤ c') x) (λ i. (enclosure_over (state_enclosure (same i)) f t t).range) (covers f is.formulas.function stands t from upto);
 }
 
--- one that may be known reaches up to the time at which it is to end
-pub none_earlier : (found : Option Known) (b b' : ℤ) → b' ≡ b → IfSome found (λ known. known.last ≡ b') → IfSome found (λ known. b ≤ℤ known.last)
-none_earlier None b b' same ends = ends
-none_earlier (Some known) b b' same ends = omega (arith, ints, same, ends)
+-- one that may be known from one time to another
+pub known_from : (s : Search) (found : Option Known) (a b a' b' : ℤ) → a' ≡ a → b' ≡ b → a <ℤ b → IfSome found (λ known. IsKnown s known)
+    → IfSome found (λ known. known.first ≡ a') → IfSome found (λ known. known.last ≡ b') → IfSome found (λ known. IsKnownOver s known a b)
+known_from s None a b a' b' begins ends several is from upto = is
+known_from s (Some known) a b a' b' begins ends several is from upto = record {
+  known = is;
+  within = record { from = omega (arith, ints, begins, from); several = several; upto = omega (arith, ints, ends, upto) };
+}
 
 -- the same arguments, as they are passed on
 pub kept_as : (m : Model) (first' first last' last q' q : ℤ) (found : Option Margin) → first' ≡ first → last' ≡ last → q' ≡ q → IfSome found (KeepAll m first' last' q')

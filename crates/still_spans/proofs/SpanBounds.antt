@@ -1,6 +1,5 @@
 -- What bounds of the function over times of one granule tell.
-use Rattle.std.proofs.Common.{◌≡◌, Bool, true, false, ℤ, ◌≤ℤ◌, ◌<ℤ◌, refl, subst, arith}
-use Rattle.std.proofs.lemmas.Int.{ints}
+use Rattle.std.proofs.Common.{◌≡◌, Bool, true, false, ℤ, ◌<ℤ◌, refl, subst}
 use Rattle.std.specs.Prelude.{if◌then◌else◌}
 use Rattle.spec_intervals.specs.declared.signs.Sign.TheVariants.{Yes, No}
 use Rattle.spec_intervals.specs.Interval.{Interval}
@@ -8,13 +7,13 @@ use Rattle.spec_bodies.specs.Views.{Fits}
 use Rattle.spec_events.specs.Verdict.{is_known, is_one_way}
 use Rattle.spec_searches.specs.Search.{IsSearch, Search}
 use Rattle.spec_bounds.specs.Terms.{bound_over}
+use Rattle.spec_bounds.proofs.States.{part_fits}
 use Rattle.event_bounds.specs.declared.bound.Bound.{Bound as Made}
 use Rattle.event_bounds.specs.Made.{IsBound}
 use Rattle.spec_stills.specs.Margins.{IsMonotone}
 use Rattle.span_models.specs.declared.margin.Margin.{Margin}
 use Rattle.still_spans.specs.declared.span_bound.SpanBound.{SpanBound}
-use Rattle.still_spans.specs.Knowledge.{IsBounded, side}
-use Rattle.still_spans.proofs.Margins.{fits_within}
+use Rattle.still_spans.specs.Knowledge.{IsBounded, IsBoundedOver, side}
 
 pub bounded_by : (s : Search) (p : Made) (c d c' d' : ℤ) → c' ≡ c → d' ≡ d → IsSearch s → Fits s.view c d → c <ℤ d → IsBound p (bound_over s.view s.event.function c d)
     → IsBounded s (record { bound = p; first = c'; last = d' })
@@ -33,9 +32,8 @@ side_is_known g = by g.is_above
     by true = refl
     by false = refl
 
-module _ (s : Search) (x : SpanBound) (is : IsBounded s x) where
-  pub monotone_by : is_one_way x.bound.step ≡ true → IsMonotone s x.first x.last
-  monotone_by one_way = record { fits = is.fits; one_way = subst (λ (step : Interval). is_one_way step ≡ true) is.bound.step one_way }
+pub monotone_by : (s : Search) (x : SpanBound) → IsBounded s x → is_one_way x.bound.step ≡ true → IsMonotone s x.first x.last
+monotone_by s x is one_way = record { fits = is.fits; one_way = subst (λ (step : Interval). is_one_way step ≡ true) is.bound.step one_way }
 
-  pub part_fits : (a b : ℤ) → x.first ≤ℤ a → a <ℤ b → b ≤ℤ x.last → Fits s.view a b
-  part_fits a b from several upto = fits_within s.view x.first x.last is.fits a b from (omega (arith, ints, several)) upto
+pub times_fit : (s : Search) (x : SpanBound) (a b : ℤ) → IsBoundedOver s x a b → Fits s.view a b
+times_fit s x a b over = part_fits s.view a b x.first x.last over.bounded.fits over.within.from over.within.several over.within.upto

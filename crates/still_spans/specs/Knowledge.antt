@@ -34,6 +34,22 @@ pub record IsBounded (s : Search) (x : SpanBound) : Type 0 where
   pub several : x.first <ℤ x.last
   pub bound : IsBound x.bound (bound_over s.view s.event.function x.first x.last)
 
+-- the times from a to b lie between two others
+pub record AreWithin (first last a b : ℤ) : Type 0 where
+  pub from : first ≤ℤ a
+  pub several : a <ℤ b
+  pub upto : b ≤ℤ last
+
+-- what is known over the times from a to b at least
+pub record IsKnownOver (s : Search) (x : Known) (a b : ℤ) : Type 0 where
+  pub known : IsKnown s x
+  pub within : AreWithin x.first x.last a b
+
+-- a bound over the times from a to b at least
+pub record IsBoundedOver (s : Search) (x : SpanBound) (a b : ℤ) : Type 0 where
+  pub bounded : IsBounded s x
+  pub within : AreWithin x.first x.last a b
+
 -- the sign of numbers on the side of 0 that a margin is on
 abbrev pub side : Margin → Sign
 side g = if g.is_above then Yes else No

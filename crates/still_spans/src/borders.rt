@@ -9,7 +9,7 @@ use ival_core::Sign;
 use spec_stills::StillSpan;
 use spec_stills::still_laws::units_of_one_sign_are_still;
 
-// Whether the sign is known.
+// Tells whether a sign is known: `Yes` or `No`, but not `Open`.
 fn is_known(sign: Sign) -> bool
     ensures { result ≡ is_known sign }
 {
@@ -19,24 +19,26 @@ fn is_known(sign: Sign) -> bool
     }
 }
 
-// Whether a time is the next after another.
-fn is_next(before: i64, after: i64) -> bool
+// Tells whether `after` is the tick that follows `before`.
+fn is_next_tick(before: i64, after: i64) -> bool
     ensures { IsTrue result → after ≡ before +ℤ pos 1 }
 {
     before < after && before.abs_diff(after) == 1
 }
 
-// Whether a span begins one unit after another ends, with the same known sign.
-fn is_unit_apart(before: StillSpan, after: StillSpan) -> bool
+// Tells whether a still span begins one tick after another ends, and both have the same known sign. Then the tick
+// between them is still too.
+fn are_one_tick_apart(before: StillSpan, after: StillSpan) -> bool
     ensures next { IsTrue result → after.from ≡ before.upto +ℤ pos 1 }
     ensures same { IsTrue result → before.sign ≡ after.sign }
     ensures known { IsTrue result → is_known after.sign ≡ true }
 {
-    is_next(before.upto, after.from) && before.sign == after.sign && is_known(after.sign)
+    is_next_tick(before.upto, after.from) && before.sign == after.sign && is_known(after.sign)
 }
 
-// The span from one time to another, for nodes that are no wider than those that are not split.
-fn unit(search: &EventSearch, from: i64, upto: i64, sign: Sign) -> StillSpan
+// Returns a still span from `from` to `upto` with a sign, for nodes no wider than the width at which the search stops
+// splitting. They are not halved.
+fn one_tick_span(search: &EventSearch, from: i64, upto: i64, sign: Sign) -> StillSpan
     ensures { result ≡ still from upto search.now.width 0 sign }
 {
     StillSpan {
@@ -48,8 +50,9 @@ fn unit(search: &EventSearch, from: i64, upto: i64, sign: Sign) -> StillSpan
     }
 }
 
-/// The unit between two still spans, where they are one unit apart and have the same sign.
-pub(crate) fn unit_between(
+/// Returns the still span from the end of one still span to the start of the next, one tick later. None is returned
+/// if they are not one tick apart, or if their signs differ or are not known.
+pub(crate) fn one_tick_span_between(
     search: &EventSearch,
     before: StillSpan,
     after: StillSpan,
@@ -62,8 +65,8 @@ pub(crate) fn unit_between(
 {
     units_of_one_sign_are_still();
     search.is_search();
-    if is_unit_apart(before, after) {
-        Some(unit(search, before.upto, after.from, after.sign))
+    if are_one_tick_apart(before, after) {
+        Some(one_tick_span(search, before.upto, after.from, after.sign))
     } else {
         None
     }

@@ -14,7 +14,7 @@ use gf_hooks::Judge;
 /// still span begins is split unjudged, down to the limits of the search.
 #[derive(Drop)]
 pub struct EagerJudge<'j, 'e, J: Judge> {
-    /// The judge that is asked where no span serves the node, and none begins in it.
+    /// The judge that is asked of a node if no span serves it, and none begins in it.
     pub judge: &'j J,
     /// The search whose nodes are judged.
     pub search: &'j EventSearch<'e>,

@@ -7,8 +7,9 @@ ghost use Rattle.spec_ephemeris.specs.Header.{has_column};
 use eph_model::Ephemeris;
 use event_judge::EventSearch;
 
-// The last time before the next granule of one of some columns begins, or that of the ephemeris.
-fn last_time(ephemeris: &Ephemeris, columns: &[usize], time: i64) -> i64
+// Returns the last time before a granule of one of the columns begins after `time`. If none begins before the end of
+// the ephemeris, that end is returned.
+fn last_time_before_border(ephemeris: &Ephemeris, columns: &[usize], time: i64) -> i64
     requires present { All (λ column. IsTrue (has_column ephemeris.now.header column)) columns.now }
     requires block { 0 < ephemeris.now.blocks }
     requires from { ephemeris.now.start ≤ℤ time }
@@ -26,17 +27,18 @@ fn last_time(ephemeris: &Ephemeris, columns: &[usize], time: i64) -> i64
     last
 }
 
-/// The last time of the granules of the columns in use in which a time lies.
-pub(crate) fn last_before_border(search: &EventSearch, time: i64) -> i64
+/// Returns the last time that lies in the same granules of all columns in use as `time` does.
+pub(crate) fn last_time_in_granules(search: &EventSearch, time: i64) -> i64
     requires from { search.now.view.ephemeris.start ≤ℤ time }
     requires upto { time ≤ℤ end_of search.now.view.ephemeris }
 {
     let columns = search.states().columns();
-    last_time(search.ephemeris(), columns, time)
+    last_time_before_border(search.ephemeris(), columns, time)
 }
 
-/// Whether no granule of the columns in use begins after a time and up to another.
-pub(crate) fn fits(search: &EventSearch, a: i64, b: i64) -> bool
+/// Tells whether no granule of the columns in use begins after `a` and up to `b`, so that one model holds over all
+/// these times.
+pub(crate) fn has_no_border_between(search: &EventSearch, a: i64, b: i64) -> bool
     requires from { search.now.view.ephemeris.start ≤ℤ a }
     requires several { a <ℤ b }
     requires upto { b ≤ℤ end_of search.now.view.ephemeris }

@@ -1,44 +1,49 @@
 // The still spans of one granule: those of its halves, of their halves, and so on.
-ghost use Rattle.std.specs.Prelude.{◌≡◌, ◌≤ℤ◌, ◌<ℤ◌, ◌+ℤ◌, pos, ℤ, IfSome, OnOk, false, [], ◌∷◌, ◌++◌};
+ghost use Rattle.std.specs.Prelude.{◌≡◌, ◌<ℤ◌, ◌+ℤ◌, pos, ℤ, IfSome, OnOk, false, [], ◌∷◌, ◌++◌};
 ghost use Rattle.spec_trees.specs.Cuts.{CanCut};
 ghost use Rattle.spec_stills.specs.Still.{IsStill};
 ghost use Rattle.still_spans.specs.Found.{AreFound, IsStillOver};
-ghost use Rattle.still_spans.specs.Knowledge.{IsBounded, IsKnown};
+ghost use Rattle.still_spans.specs.Knowledge.{IsBoundedOver, IsKnownOver};
 
-use crate::borders::unit_between;
+use crate::borders::one_tick_span_between;
 use crate::known::Known;
 use crate::span_bound::SpanBound;
 use event_judge::EventSearch;
+use event_models::ModelRooms;
 use gf_hooks::{CutRule, rule_cut};
 use spec_stills::StillSpan;
 use std::alloc::AllocError;
 
-/// How often a granule is halved at most.
+/// The greatest number of times that a granule is halved.
 pub(crate) const DEEPEST: u32 = 24;
 
-/// How many spans of a granule are looked at at most.
+/// The greatest number of spans of a granule that are looked at.
 pub(crate) const MAX_TRIES: u32 = 16_384;
 
 /// The width, in ticks, of the widest spans that are not halved.
 const NARROWEST: u64 = 16;
 
-/// The still spans that are found, and how many more spans of a granule are looked at.
+/// The still spans that are found, how many more spans of a granule are looked at, and the room in which models are
+/// made.
 #[derive(Drop)]
 pub(crate) struct Walk {
     pub(crate) found: Vec<StillSpan>,
     pub(crate) tries: u32,
+    pub(crate) rooms: ModelRooms,
 }
 
-// No wider than what is not halved, or than the nodes that are not split.
-fn is_narrow(search: &EventSearch, a: i64, b: i64) -> bool
+// Tells whether the span from `a` to `b` is too narrow to be halved: at most 16 ticks, or at most the width at which
+// the search stops splitting.
+fn is_too_narrow_to_halve(search: &EventSearch, a: i64, b: i64) -> bool
     requires { a <ℤ b }
     ensures { result ≡ false → (a +ℤ pos 1) <ℤ b }
 {
     b.abs_diff(a) <= search.width().max(NARROWEST)
 }
 
-// Where the tree cuts a node of these times.
-fn middle(a: i64, b: i64) -> i64
+// Returns the time at which the tree cuts a node from `a` to `b` in two: halfway, rounded down. Still spans are
+// halved there too, so that nodes of the tree fit into them.
+fn middle_time(a: i64, b: i64) -> i64
     requires { CanCut a b }
     ensures from { a <ℤ result }
     ensures upto { result <ℤ b }
@@ -47,8 +52,9 @@ fn middle(a: i64, b: i64) -> i64
 }
 
 impl Walk {
-    // The unit between the last of the spans and one more, where these are one unit apart and have the same sign.
-    fn unit_before(&self, search: &EventSearch, still: StillSpan) -> Option<StillSpan>
+    // Returns the still span from the end of the last span found to the start of `still`, one tick later. None is
+    // returned if there is none yet, if they are not one tick apart, or if their signs differ.
+    fn one_tick_span_before(&self, search: &EventSearch, still: StillSpan) -> Option<StillSpan>
         requires still { IsStill search.now still }
         requires several { still.from <ℤ still.upto }
         ensures { (from : ℤ) → AreFound search.now from self.now.found.items still.from
@@ -56,19 +62,24 @@ impl Walk {
             (self.now.found.items ++ unit ∷ []) still.from) }
     {
         match self.found.last() {
-            Some(last) => unit_between(search, *last, still),
+            Some(last) => one_tick_span_between(search, *last, still),
             None => None,
         }
     }
 
-    // Adds that unit.
-    fn add_unit(&mut self, search: &EventSearch, still: StillSpan) -> Result<(), AllocError>
+    // Adds the still span of one tick between the last span found and `still`, or nothing if there is no such span.
+    // The only error is out of memory.
+    fn add_one_tick_span_before(
+        &mut self,
+        search: &EventSearch,
+        still: StillSpan,
+    ) -> Result<(), AllocError>
         requires still { IsStill search.now still }
         requires several { still.from <ℤ still.upto }
         ensures { (from : ℤ) → AreFound search.now from self.old.found.items still.from
             → OnOk result (AreFound search.now from self.new.found.items still.from) }
     {
-        match self.unit_before(search, still) {
+        match self.one_tick_span_before(search, still) {
             Some(unit) => {
                 self.found.push(unit)?;
                 Ok(())
@@ -77,8 +88,9 @@ impl Walk {
         }
     }
 
-    /// One still span more, after those before, and after the unit between where that is still.
-    pub(crate) fn add(
+    /// Adds the still span `still`, which is from `a` to `b`, after those found, and before it the span of one tick
+    /// between them if that is still too. The only error is out of memory.
+    pub(crate) fn add_span(
         &mut self,
         search: &EventSearch,
         a: i64,
@@ -90,14 +102,15 @@ impl Walk {
         ensures { (from : ℤ) → AreFound search.now from self.old.found.items a
             → OnOk result (AreFound search.now from self.new.found.items b) }
     {
-        self.add_unit(search, still)?;
+        self.add_one_tick_span_before(search, still)?;
         self.found.push(still)?;
         Ok(())
     }
 
-    /// Adds still spans from one time to another, given a bound over these times at least: the span itself, or those of its
-    /// halves.
-    pub(crate) fn add_halves(
+    /// Adds the still spans from `a` to `b`: the whole span if it is still, and else those of its two halves, down to
+    /// `depth` more halvings. The model `known` and the bound `over` hold over these times at least. Each call uses
+    /// up one of the tries; with none left nothing is added. The only error is out of memory.
+    pub(crate) fn add_spans_within(
         &mut self,
         search: &EventSearch,
         known: &Known,
@@ -106,13 +119,8 @@ impl Walk {
         b: i64,
         depth: u32,
     ) -> Result<(), AllocError>
-        requires known { IsKnown search.now known.now }
-        requires from { known.now.first ≤ℤ a }
-        requires several { a <ℤ b }
-        requires upto { b ≤ℤ known.now.last }
-        requires bounded { IsBounded search.now over.now }
-        requires bound_from { over.now.first ≤ℤ a }
-        requires bound_upto { b ≤ℤ over.now.last }
+        requires known { IsKnownOver search.now known.now a b }
+        requires bounded { IsBoundedOver search.now over.now a b }
         ensures { (from : ℤ) → AreFound search.now from self.old.found.items a
             → OnOk result (AreFound search.now from self.new.found.items b) }
     {
@@ -120,18 +128,18 @@ impl Walk {
             return Ok(());
         }
         self.tries -= 1;
-        let doubt = match known.still_over(search, over, a, b) {
-            Ok(still) => return self.add(search, a, b, still),
+        let doubt = match known.still_span_within(search, over, a, b) {
+            Ok(still) => return self.add_span(search, a, b, still),
             Err(doubt) => doubt,
         };
-        if depth == 0 || is_narrow(search, a, b) {
+        if depth == 0 || is_too_narrow_to_halve(search, a, b) {
             return Ok(());
         }
-        let Some(known) = known.within(search, doubt, a, b) else {
+        let Some(known) = known.model_for_parts(search, &mut self.rooms, doubt, a, b) else {
             return Ok(());
         };
-        let middle = middle(a, b);
-        self.add_halves(search, &known, over, a, middle, depth - 1)?;
-        self.add_halves(search, &known, over, middle, b, depth - 1)
+        let middle = middle_time(a, b);
+        self.add_spans_within(search, &known, over, a, middle, depth - 1)?;
+        self.add_spans_within(search, &known, over, middle, b, depth - 1)
     }
 }

@@ -11,7 +11,8 @@ use gf_hooks::{Judge, Node, Verdict};
 use spec_stills::eager_laws::eager_trees_are_sound;
 
 impl<'j, 'e, J: Judge> EagerJudge<'j, 'e, J> {
-    /// The judge of the eager tree of a search by still spans, by a judge with the rules of the search.
+    /// Makes the judge of the eager tree that a search has with still spans. `judge` has the rules of the search, and
+    /// is asked of the nodes that no span decides.
     pub fn new(
         judge: &'j J,
         search: &'j EventSearch<'e>,
@@ -34,14 +35,18 @@ impl<'j, 'e, J: Judge> EagerJudge<'j, 'e, J> {
 impl<'j, 'e, J: Judge> Judge for EagerJudge<'j, 'e, J> {
     ghost rules = { λ judge. eager_rules judge.search.now judge.stills.now };
 
+    // Returns the verdict of a node in the eager tree: clear if a still span serves it, split if one begins within it
+    // and the limits allow it, and else the other judge's.
     fn judge(&self, node: Node) -> Verdict {
-        match self.stills.standing(self.search, node) {
+        match self.stills.node_standing(self.search, node) {
             Standing::Served => Verdict::Clear,
             Standing::Begun => Verdict::Split,
             Standing::Open => self.judge.judge(node),
         }
     }
 
+    // Returns the parts of a node that the eager tree splits, by the rule of the search. `is_search` is called for
+    // what it ensures.
     fn cut(&self, node: Node) -> (Node, Node) {
         self.search.is_search();
         self.search.parts(node)

@@ -5,24 +5,24 @@ ghost use Rattle.spec_bounds.specs.Steady.{sign_at};
 ghost use Rattle.spec_stills.specs.Margins.{HasMargin};
 ghost use Rattle.span_models.specs.Margins.{margin_of};
 ghost use Rattle.still_spans.specs.Found.{IsStillOver};
-ghost use Rattle.still_spans.specs.Knowledge.{IsBounded, IsKnown, argument_of, side};
+ghost use Rattle.still_spans.specs.Knowledge.{IsBoundedOver, IsKnown, IsKnownOver, argument_of, side};
 
 use crate::span_bound::SpanBound;
 use event_judge::EventSearch;
-use event_models::model_over;
+use event_models::{ModelRooms, model_over};
 use span_models::{Model, Outlook};
 use spec_stills::StillSpan;
 use spec_stills::margin_laws::margins_tell_signs;
 
-/// How many times as wide the times of a model are, at least, as those of one that tells more.
+/// The least ratio of the times of a model to those of a finer one that tells more.
 const FINER: u64 = 64;
 
-/// How many ticks the times of a model take at least that tells nothing in many of them beside an event: it is not halved down
+/// The least length in ticks of a model that tells nothing in many ticks beside an event, so that it is not halved down
 /// to where it tells nothing.
 const LONG: u64 = 1 << 26;
 
-/// How many ticks the times of a model take at most that is halved down to where it tells nothing. One between the two is over
-/// a part of a granule, and one over less would tell no more.
+/// The greatest length in ticks of a model that is halved down to where it tells nothing. A longer one that is not long
+/// is over a part of a granule already, and a finer one would tell no more.
 const SHORT: u64 = 1 << 22;
 
 /// Why no still span is found over some times.
@@ -45,8 +45,14 @@ pub(crate) struct Known {
 }
 
 impl Known {
-    /// What is known over some times, where the function has a model there.
-    pub(crate) fn over(search: &EventSearch, first: i64, last: i64) -> Option<Known>
+    /// Makes a model of the search's function over the times from `first` to `last`, in room that is lent. None is
+    /// returned if the function has no model there.
+    pub(crate) fn model_function(
+        search: &EventSearch,
+        rooms: &mut ModelRooms,
+        first: i64,
+        last: i64,
+    ) -> Option<Known>
         requires fits { Fits search.now.view first last }
         requires several { first <ℤ last }
         ensures known { IfSome result (λ known. IsKnown search.now known) }
@@ -55,14 +61,15 @@ impl Known {
     {
         search.is_search();
         let (listed, states) = (search.function_step(), search.states());
-        match model_over(listed, search.ephemeris(), states, first, last) {
+        match model_over(rooms, listed, search.ephemeris(), states, first, last) {
             Some(model) => Some(Known { model, first, last }),
             None => None,
         }
     }
 
-    // A time as an argument over its times.
-    fn argument(&self, t: i64) -> i64
+    // Returns the argument of the model that stands for the time `t`, in half ticks from the middle of the model's
+    // times: 0 in the middle, and plus or minus their whole length at the ends.
+    fn argument_at(&self, t: i64) -> i64
         requires first_near { neg_ℤ (pos (2 ^ 50)) ≤ℤ self.now.first }
         requires last_near { self.now.last ≤ℤ pos (2 ^ 50) }
         requires from { self.now.first ≤ℤ t }
@@ -72,8 +79,8 @@ impl Known {
         2 * t - self.first - self.last
     }
 
-    // How long its times take.
-    fn length(&self) -> i64
+    // Returns the length of the model's times in ticks.
+    fn length_in_ticks(&self) -> i64
         requires first_near { neg_ℤ (pos (2 ^ 50)) ≤ℤ self.now.first }
         requires last_near { self.now.last ≤ℤ pos (2 ^ 50) }
         requires ordered { self.now.first ≤ℤ self.now.last }
@@ -82,80 +89,79 @@ impl Known {
         self.last - self.first
     }
 
-    // What the model tells from one of its times to another: how far the function keeps from 0, and on which side.
-    fn outlook(&self, search: &EventSearch, a: i64, b: i64) -> Outlook
-        requires known { IsKnown search.now self.now }
-        requires from { self.now.first ≤ℤ a }
-        requires several { a <ℤ b }
-        requires upto { b ≤ℤ self.now.last }
+    // Returns what the model tells of the function from `a` to `b`: how far it keeps from 0 and on which side, or no
+    // margin if it may pass 0. The width of the search is read for what the call ensures.
+    fn outlook_within(&self, search: &EventSearch, a: i64, b: i64) -> Outlook
+        requires { IsKnownOver search.now self.now a b }
         ensures margin { IfSome result.margin (λ margin.
             HasMargin search.now a b (margin_of margin)) }
         ensures sign { IfSome result.margin (λ margin. sign_at search.now a ≡ side margin) }
     {
         margins_tell_signs();
         let _search = search.width();
-        let (first, last) = (self.argument(a), self.argument(b));
-        let length = self.length();
+        let (first, last) = (self.argument_at(a), self.argument_at(b));
+        let length = self.length_in_ticks();
         self.model.outlook(first, last, length)
     }
 
-    /// The still span from one of its times to another, where there is one of use, given a bound over these times at least;
-    /// else whether there may be some in parts of these times.
-    pub(crate) fn still_over(
+    /// Returns the still span from `a` to `b` that the model's margin and the bound `over` show. The error says
+    /// whether still spans may be found in parts of these times.
+    pub(crate) fn still_span_within(
         &self,
         search: &EventSearch,
         over: &SpanBound,
         a: i64,
         b: i64,
     ) -> Result<StillSpan, Doubt>
-        requires known { IsKnown search.now self.now }
-        requires from { self.now.first ≤ℤ a }
-        requires several { a <ℤ b }
-        requires upto { b ≤ℤ self.now.last }
-        requires bounded { IsBounded search.now over.now }
-        requires bound_from { over.now.first ≤ℤ a }
-        requires bound_upto { b ≤ℤ over.now.last }
+        requires known { IsKnownOver search.now self.now a b }
+        requires bounded { IsBoundedOver search.now over.now a b }
         ensures { IfOk result (λ still. IsStillOver search.now a b still) }
     {
-        let outlook = self.outlook(search, a, b);
+        let outlook = self.outlook_within(search, a, b);
         match outlook.margin {
-            Some(margin) => over.still_by(search, margin, a, b).ok_or(Doubt::Parts),
-            None if self.is_rough(a, b) => Err(Doubt::Rough),
-            None if outlook.is_blurred && self.is_sharp(a, b) => Err(Doubt::Rough),
+            Some(margin) => over
+                .still_span_by_margin(search, margin, a, b)
+                .ok_or(Doubt::Parts),
+            None if self.is_long_and_far_wider(a, b) => Err(Doubt::Rough),
+            None if outlook.is_blurred && self.is_short_and_far_wider(a, b) => Err(Doubt::Rough),
             None if outlook.is_blurred => Err(Doubt::Blurred),
             None => Err(Doubt::Parts),
         }
     }
 
-    // Beside an event it tells nothing in many ticks of some of its times, and a model over these alone tells more.
-    fn is_rough(&self, a: i64, b: i64) -> bool {
+    // Tells whether the model is longer than 2^26 ticks and at least 64 times as long as the times from `a` to `b`.
+    // Then a model of their own is worth making at once.
+    fn is_long_and_far_wider(&self, a: i64, b: i64) -> bool {
         LONG < self.last.abs_diff(self.first) && self.is_far_wider(a, b)
     }
 
-    // Where it tells nothing in some of its times, a model over these alone may tell more.
-    fn is_sharp(&self, a: i64, b: i64) -> bool {
+    // Tells whether the model is at most 2^22 ticks long and at least 64 times as long as the times from `a` to `b`.
+    // Then a model of their own may tell more, even though this one tells nothing.
+    fn is_short_and_far_wider(&self, a: i64, b: i64) -> bool {
         self.last.abs_diff(self.first) <= SHORT && self.is_far_wider(a, b)
     }
 
-    /// What is known over some of its times, to be asked of parts of these: a model over them alone, where that tells more than
-    /// one over more. None where no model tells more.
-    pub(crate) fn within(&self, search: &EventSearch, doubt: Doubt, a: i64, b: i64) -> Option<Known>
-        requires known { IsKnown search.now self.now }
-        requires from { self.now.first ≤ℤ a }
-        requires several { a <ℤ b }
-        requires upto { b ≤ℤ self.now.last }
-        ensures known { IfSome result (λ known. IsKnown search.now known) }
-        ensures from { IfSome result (λ known. known.first ≤ℤ a) }
-        ensures upto { IfSome result (λ known. b ≤ℤ known.last) }
+    /// Returns the model by which the parts of the times from `a` to `b` are examined: this one, or for the doubt
+    /// `Rough` a new one over these times alone. None is returned if no model can tell more, or none can be made.
+    pub(crate) fn model_for_parts(
+        &self,
+        search: &EventSearch,
+        rooms: &mut ModelRooms,
+        doubt: Doubt,
+        a: i64,
+        b: i64,
+    ) -> Option<Known>
+        requires { IsKnownOver search.now self.now a b }
+        ensures { IfSome result (λ known. IsKnownOver search.now known a b) }
     {
         match doubt {
             Doubt::Parts => Some(*self),
-            Doubt::Rough => Known::over(search, a, b),
+            Doubt::Rough => Known::model_function(search, rooms, a, b),
             Doubt::Blurred => None,
         }
     }
 
-    // Its times take so much longer than some of them that a model over these alone tells more.
+    // Tells whether the model's times are at least 64 times as long as those from `a` to `b`.
     fn is_far_wider(&self, a: i64, b: i64) -> bool {
         b.abs_diff(a) <= self.last.abs_diff(self.first) / FINER
     }

@@ -1,4 +1,4 @@
 // The limit of the spans that are taken.
 
-/// How often a node in a still span is halved at most.
+/// The greatest number of times that a node in a still span is halved.
 pub const MAX_HALVINGS: u32 = 31;

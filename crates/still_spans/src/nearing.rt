@@ -8,25 +8,26 @@ ghost use Rattle.still_spans.specs.Below.{IsBelow, holds_begin};
 use crate::eager_judge::EagerJudge;
 use gf_hooks::{Judge, Node, Verdict};
 
-/// How many times as wide as a leaf a node is, at least, from which the way to the leaves after it begins.
+/// The least ratio of the widths of a node and a leaf at which the descent to the leaf goes on below the node.
 const WIDER: u64 = 64;
 
-// The second node begins in the first.
-fn holds_begin(at: Node, node: Node) -> bool
+// Tells whether `node` begins within `at`: at the first time of `at` or later, and before its last.
+fn holds_start(at: Node, node: Node) -> bool
     ensures { result ≡ holds_begin at node }
 {
     at.a <= node.a && node.a < at.b
 }
 
-// A node is so much wider than another that the way down goes on from it.
+// Tells whether `at` is at least 64 times as wide as `node`. Then the descent to `node` goes on below `at`.
 fn is_far_wider(at: Node, node: Node) -> bool {
     node.b.abs_diff(node.a) <= at.b.abs_diff(at.a) / WIDER
 }
 
 impl<'j, 'e, J: Judge> EagerJudge<'j, 'e, J> {
-    // The last node on the way from one down to another that is much wider than this.
+    // Returns the first node, on the way down the tree from `at` to `node`, that is less than 64 times as wide as
+    // `node`, or the leaf of the tree at which the way ends before.
     #[tactic(auto, using(crate::proofs::Descent::itself))]
-    fn nearer(&self, at: Node, node: Node) -> Node
+    fn first_narrow_ancestor(&self, at: Node, node: Node) -> Node
         requires valid { IsValid (rules self.now.search.now) at }
         requires inside { node.a <ℤ node.b }
         ensures valid { IsValid (rules self.now.search.now) result }
@@ -37,7 +38,7 @@ impl<'j, 'e, J: Judge> EagerJudge<'j, 'e, J> {
             match self.judge.judge(at) {
                 Verdict::Clear => at,
                 Verdict::One(_) => at,
-                Verdict::Split => self.nearer(self.part_of(at, node), node),
+                Verdict::Split => self.first_narrow_ancestor(self.part_towards(at, node), node),
                 Verdict::Undecided => at,
             }
         } else {
@@ -45,22 +46,24 @@ impl<'j, 'e, J: Judge> EagerJudge<'j, 'e, J> {
         }
     }
 
-    // The node from which the way to another begins: the last such node, where the other begins in it, or the root.
+    // Returns the node from which the way down to `node` starts: `last`, which the leaf before left, if `node` begins
+    // within it, and else the root.
     #[tactic(auto, using(crate::proofs::Descent::itself))]
-    fn start(&self, root: Node, last: Node, node: Node) -> Node
+    fn descent_start(&self, root: Node, last: Node, node: Node) -> Node
         requires root { IsValid (rules self.now.search.now) root }
         requires last { IsValid (rules self.now.search.now) last }
         requires below { IsBelow self.now.search.now root last }
         ensures valid { IsValid (rules self.now.search.now) result }
         ensures below { IsBelow self.now.search.now root result }
     {
-        if holds_begin(last, node) { last } else { root }
+        if holds_start(last, node) { last } else { root }
     }
 
-    /// A node on the way from a root down to another, much wider than this, that tells of it what the root does, given one on the
-    /// way to a node before it.
+    /// Returns a node on the way down from the root to `node`, below which `node` lies in a clear leaf exactly if it
+    /// does below the root. The way starts at `last`, found for an earlier leaf, if `node` begins within it: so that
+    /// of leaves in order each costs a few steps, and not the whole depth.
     #[tactic(auto, using(crate::proofs::Descent::itself))]
-    pub(crate) fn near(&self, root: Node, last: Node, node: Node) -> Node
+    pub(crate) fn near_ancestor(&self, root: Node, last: Node, node: Node) -> Node
         requires root { IsValid (rules self.now.search.now) root }
         requires last { IsValid (rules self.now.search.now) last }
         requires below { IsBelow self.now.search.now root last }
@@ -69,9 +72,9 @@ impl<'j, 'e, J: Judge> EagerJudge<'j, 'e, J> {
         ensures below { IsBelow self.now.search.now root result }
         ensures same { is_cleared self.now.search.now root node ≡ is_cleared self.now.search.now result node }
     {
-        let start = self.start(root, last, node);
-        let found = self.nearer(start, node);
-        if holds_begin(found, node) {
+        let start = self.descent_start(root, last, node);
+        let found = self.first_narrow_ancestor(start, node);
+        if holds_start(found, node) {
             found
         } else {
             root

@@ -12,8 +12,9 @@ use ival_core::Sign;
 use spec_bounds::laws::quiet_spans_are_clear;
 use spec_stills::StillSpan;
 
-/// The still span of all of some times, where the bound of the function over them has one sign.
-pub(crate) fn quiet_over(search: &EventSearch, bound: &Bound, a: i64, b: i64) -> Option<StillSpan>
+/// Returns the still span from `a` to `b` if the bound of the function over these times has one sign. None is
+/// returned if the bound holds numbers on both sides of 0.
+pub(crate) fn quiet_span(search: &EventSearch, bound: &Bound, a: i64, b: i64) -> Option<StillSpan>
     requires fits { Fits search.now.view a b }
     requires several { a <ℤ b }
     requires bound { IsBound bound.now (bound_over search.now.view search.now.event.function a b) }
@@ -22,14 +23,15 @@ pub(crate) fn quiet_over(search: &EventSearch, bound: &Bound, a: i64, b: i64) ->
     quiet_spans_are_clear();
     search.is_search();
     match bound.range.sign() {
-        Sign::Yes => Some(whole(search, a, b, Sign::Yes)),
-        Sign::No => Some(whole(search, a, b, Sign::No)),
+        Sign::Yes => Some(span_for_any_width(search, a, b, Sign::Yes)),
+        Sign::No => Some(span_for_any_width(search, a, b, Sign::No)),
         Sign::Open => None,
     }
 }
 
-// All of some times, in which each node is clear.
-fn whole(search: &EventSearch, a: i64, b: i64, sign: Sign) -> StillSpan
+// Returns the still span from `a` to `b` with a sign, in which a node of any width is clear: `widest` is the whole
+// span, and no node is halved.
+fn span_for_any_width(search: &EventSearch, a: i64, b: i64, sign: Sign) -> StillSpan
     requires still { (widest : ℕ) → IsStill search.now (still a b widest 0 sign) }
     ensures { IsStillOver search.now a b result }
 {

@@ -13,7 +13,7 @@ use gf_hooks::Judge;
 /// Judges the nodes of a search as another judge does, but that a node which a still span serves is clear.
 #[derive(Drop)]
 pub struct ServedJudge<'j, 'e, J: Judge> {
-    /// The judge that is asked where no span serves the node.
+    /// The judge that is asked of a node if no span serves it.
     pub judge: &'j J,
     /// The search whose nodes are judged.
     pub search: &'j EventSearch<'e>,

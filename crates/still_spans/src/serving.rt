@@ -12,17 +12,18 @@ use gf_hooks::CutRule;
 use spec_stills::StillSpan;
 use spec_trees::{Leaf, Node};
 
-// The node lies within the span.
+// Tells whether a node lies within a still span, ends included.
 #[inline(always)]
-fn lies_in(still: StillSpan, node: Node) -> bool
+fn node_lies_in_span(still: StillSpan, node: Node) -> bool
     ensures { result ≡ lies_in still node }
 {
     still.from <= node.a && node.b <= still.upto
 }
 
-// How many parts a node has that is halved so often.
+// Returns the number of parts into which `halvings` halvings cut a node: 2 to that power. The remainder by 64 changes
+// nothing, and spares the compiled code a test for shifts that are too great.
 #[inline(always)]
-fn parts_of(halvings: u32) -> u64
+fn part_count(halvings: u32) -> u64
     requires { halvings ≤ MAX_HALVINGS }
     ensures parts { result ≡ 2 ^ halvings }
     ensures few { result ≤ 2 ^ MAX_HALVINGS }
@@ -30,26 +31,27 @@ fn parts_of(halvings: u32) -> u64
     1 << (halvings % 64)
 }
 
-// So many halvings bring a width down to another.
+// Tells whether `halvings` halvings bring a width, in ticks, down to `widest` or below.
 #[inline(always)]
-fn is_halved_to(widest: u64, width: u64, halvings: u32) -> bool
+fn are_enough_halvings(widest: u64, width: u64, halvings: u32) -> bool
     requires { halvings ≤ MAX_HALVINGS }
     ensures { result ≡ nat_le width (2 ^ halvings * widest) }
 {
-    u128::from(width) <= u128::from(parts_of(halvings)) * u128::from(widest)
+    u128::from(width) <= u128::from(part_count(halvings)) * u128::from(widest)
 }
 
-// Halved so often, the node is as narrow as the span asks, and is not as deep as the depth before.
+// Tells whether a node, halved as often as a still span says, comes down to the width at which the span's nodes are
+// clear, at depths that the search allows.
 #[inline(always)]
-fn is_near_enough(search: &EventSearch, still: StillSpan, node: Node) -> bool
+fn is_halved_narrow_enough(search: &EventSearch, still: StillSpan, node: Node) -> bool
     requires { still.halvings ≤ MAX_HALVINGS }
     ensures { result ≡ is_near_enough search.now still node }
 {
-    is_halved_to(still.widest, node.b.abs_diff(node.a), still.halvings)
+    are_enough_halvings(still.widest, node.b.abs_diff(node.a), still.halvings)
         && u64::from(node.depth) + u64::from(still.halvings) <= u64::from(search.depth())
 }
 
-// The fewest halvings that bring a width down to `widest`, or `most` where fewer do not.
+// Returns the fewest halvings that bring a width, in ticks, down to `widest`, or `most` if fewer than `most` do not.
 fn fewest_halvings(widest: u64, width: u64, most: u32) -> u32
     requires { most ≤ MAX_HALVINGS }
     ensures fewest { result ≡ fewest_halvings widest width most }
@@ -57,7 +59,7 @@ fn fewest_halvings(widest: u64, width: u64, most: u32) -> u32
 {
     match most.checked_sub(1) {
         Some(fewer) => {
-            if is_halved_to(widest, width, fewer) {
+            if are_enough_halvings(widest, width, fewer) {
                 fewest_halvings(widest, width, fewer)
             } else {
                 most
@@ -67,19 +69,20 @@ fn fewest_halvings(widest: u64, width: u64, most: u32) -> u32
     }
 }
 
-// How many leaves a node that the span serves has at most.
-fn leaves_of(still: StillSpan, node: Node) -> u64
+// Returns the greatest number of leaves that the search's tree can have in a node that a still span serves: the parts
+// of the fewest halvings, or the ticks of the node if they are fewer.
+fn max_leaf_count(still: StillSpan, node: Node) -> u64
     requires { still.halvings ≤ MAX_HALVINGS }
     ensures leaves { result ≡ min (2 ^ halvings_of still node) (width node) }
     ensures few { result ≤ 2 ^ MAX_HALVINGS }
 {
     let width = node.b.abs_diff(node.a);
-    parts_of(fewest_halvings(still.widest, width, still.halvings)).min(width)
+    part_count(fewest_halvings(still.widest, width, still.halvings)).min(width)
 }
 
-// The rule halves.
+// Tells whether a rule cuts nodes into halves.
 #[inline(always)]
-fn is_half(rule: CutRule) -> bool
+fn is_half_rule(rule: CutRule) -> bool
     ensures { result ≡ is_half rule }
 {
     match rule {
@@ -88,26 +91,30 @@ fn is_half(rule: CutRule) -> bool
     }
 }
 
-// The search halves its nodes, and splits those that are wider than the span asks.
+// Tells whether a search halves its nodes, and splits every node that is wider than those which a still span shows to
+// be clear.
 #[inline(always)]
-fn is_fine_enough(search: &EventSearch, still: StillSpan) -> bool
+fn halves_down_to_widest(search: &EventSearch, still: StillSpan) -> bool
     ensures { result ≡ is_fine_enough search.now still }
 {
-    is_half(search.rule()) && search.width() <= still.widest
+    is_half_rule(search.rule()) && search.width() <= still.widest
 }
 
-// By the span, all leaves of the node are clear.
+// Tells whether a still span serves a node: all leaves that the search's tree has in the node are clear because of
+// the span.
 #[inline(always)]
-fn serves(search: &EventSearch, still: StillSpan, node: Node) -> bool
+fn span_serves_node(search: &EventSearch, still: StillSpan, node: Node) -> bool
     requires { still.halvings ≤ MAX_HALVINGS }
     ensures { result ≡ serves search.now still node }
 {
-    lies_in(still, node) && (is_near_enough(search, still, node) && is_fine_enough(search, still))
+    node_lies_in_span(still, node)
+        && (is_halved_narrow_enough(search, still, node) && halves_down_to_widest(search, still))
 }
 
 impl StillList {
-    /// The span that serves a node of a search, if one does, given how many begin no later than the node: no more than one can.
-    pub(crate) fn serving_of(
+    /// Returns the still span that serves a node of a search, or none if none does. Of the `count` spans that begin
+    /// no later than the node, which the caller has counted, only the last can serve it.
+    pub(crate) fn serving_span_among(
         &self,
         search: &EventSearch,
         node: Node,
@@ -121,31 +128,32 @@ impl StillList {
         let Some(place) = count.checked_sub(1) else {
             return None;
         };
-        let still = self.span(place);
-        if serves(search, still, node) {
+        let still = self.span_at(place);
+        if span_serves_node(search, still, node) {
             Some(still)
         } else {
             None
         }
     }
 
-    /// The span that serves a node of a search, if one does.
-    pub(crate) fn serving(&self, search: &EventSearch, node: Node) -> Option<StillSpan>
+    /// Returns the still span that serves a node of a search, or none if no span of the list does.
+    pub(crate) fn serving_span(&self, search: &EventSearch, node: Node) -> Option<StillSpan>
         requires { node.a <ℤ node.b }
         ensures span { result ≡ first_serving search.now self.now node }
         ensures few { IfSome result (λ still. still.halvings ≤ MAX_HALVINGS) }
     {
-        self.serving_of(search, node, self.count_upto(node))
+        self.serving_span_among(search, node, self.count_begun_by(node))
     }
 
-    /// How many leaves of the tree of a search a leaf of its eager tree stands for at most, as far as the spans tell.
+    /// Returns the greatest number of leaves of a search's tree for which a leaf of its eager tree can stand. A leaf
+    /// that no still span serves counts as one.
     pub fn weight(&self, search: &EventSearch, leaf: Leaf) -> u64
         requires { HasTime leaf }
         ensures weight { result ≡ weight search.now self.now leaf }
         ensures few { result ≤ 2 ^ MAX_HALVINGS }
     {
-        match self.serving(search, leaf.node) {
-            Some(still) => leaves_of(still, leaf.node),
+        match self.serving_span(search, leaf.node) {
+            Some(still) => max_leaf_count(still, leaf.node),
             None => 1,
         }
     }

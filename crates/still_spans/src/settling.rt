@@ -1,4 +1,4 @@
-// The leaves of an eager tree, settled by the tree of the search.
+// The undecided leaves of an eager tree, which the tree of the search may show to be clear.
 ghost use Rattle.std.specs.Prelude.{◌≡◌, ◌<◌, ◌<ℤ◌, All, map};
 ghost use Rattle.spec_trees.specs.declared.tree.Verdict.TheVariants.{Split};
 ghost use Rattle.spec_trees.specs.Tree.{HasTime, IsValid, width};
@@ -11,22 +11,24 @@ use crate::eager_judge::EagerJudge;
 use gf_hooks::{Judge, Node, Verdict};
 use spec_trees::{Leaf, Mark};
 
-// One node lies in another.
-fn holds(at: Node, node: Node) -> bool
+// Tells whether `node` lies within `at`, ends included.
+fn contains_node(at: Node, node: Node) -> bool
     ensures { result ≡ holds at node }
 {
     at.a <= node.a && node.b <= at.b
 }
 
-// The part in which a node begins.
-fn part_with(both: (Node, Node), node: Node) -> Node
-    ensures { result ≡ part_with both node }
+// Returns that one of the two parts of a cut node in which `node` begins: the left one if `node` begins before that
+// part ends, and else the right one.
+fn part_that_holds_start(parts: (Node, Node), node: Node) -> Node
+    ensures { result ≡ part_with parts node }
 {
-    if node.a < both.0.b { both.0 } else { both.1 }
+    if node.a < parts.0.b { parts.0 } else { parts.1 }
 }
 
-// A leaf, settled by whether it lies in a clear one.
-fn settled_by(cleared: bool, leaf: Leaf) -> Leaf
+// Returns a leaf with the mark clear if it is undecided and `cleared` is true, and else as it is. `cleared` says
+// whether the leaf lies in a clear leaf of the search's tree.
+fn mark_clear_if(cleared: bool, leaf: Leaf) -> Leaf
     ensures { result ≡ settled_by cleared leaf }
 {
     match leaf.mark {
@@ -46,8 +48,9 @@ fn settled_by(cleared: bool, leaf: Leaf) -> Leaf
 }
 
 impl<'j, 'e, J: Judge> EagerJudge<'j, 'e, J> {
-    /// The part in which a node begins of one that the search splits.
-    pub(crate) fn part_of(&self, at: Node, node: Node) -> Node
+    /// Returns the part of `at`, which the search splits, in which `node` begins. It is narrower than `at`, so a
+    /// descent by it ends.
+    pub(crate) fn part_towards(&self, at: Node, node: Node) -> Node
         requires valid { IsValid (rules self.now.search.now) at }
         requires split { verdict_of self.now.search.now at ≡ Split }
         requires inside { node.a <ℤ node.b }
@@ -57,38 +60,40 @@ impl<'j, 'e, J: Judge> EagerJudge<'j, 'e, J> {
     {
         self.search.is_search();
         let both = self.search.parts(at);
-        part_with(both, node)
+        part_that_holds_start(both, node)
     }
 
-    // Whether a node lies in a clear leaf of the tree of the search at another.
-    fn is_cleared(&self, at: Node, node: Node) -> bool
+    // Tells whether a node lies within a clear leaf of the tree that the search has below `at`. It descends to the
+    // leaf in which the node begins.
+    fn lies_in_clear_leaf(&self, at: Node, node: Node) -> bool
         requires valid { IsValid (rules self.now.search.now) at }
         requires inside { node.a <ℤ node.b }
         ensures { result ≡ is_cleared self.now.search.now at node }
     {
         self.search.is_search();
         match self.judge.judge(at) {
-            Verdict::Clear => holds(at, node),
+            Verdict::Clear => contains_node(at, node),
             Verdict::One(_) => false,
-            Verdict::Split => self.is_cleared(self.part_of(at, node), node),
+            Verdict::Split => self.lies_in_clear_leaf(self.part_towards(at, node), node),
             Verdict::Undecided => false,
         }
     }
 
-    // An undecided leaf of the eager tree of a root, settled by a node that tells of it what the root does.
-    fn settled_at(&self, root: Node, at: Node, leaf: Leaf) -> Leaf
+    // Returns a leaf, marked clear if it is undecided and lies in a clear leaf of the search's tree below `at`. The
+    // caller has shown that the tree below `at` decides this as the tree below the root does.
+    fn settle_leaf_below(&self, root: Node, at: Node, leaf: Leaf) -> Leaf
         requires valid { IsValid (rules self.now.search.now) at }
         requires time { HasTime leaf }
         requires same { is_cleared self.now.search.now root leaf.node
             ≡ is_cleared self.now.search.now at leaf.node }
         ensures { result ≡ settled self.now.search.now root leaf }
     {
-        settled_by(self.is_cleared(at, leaf.node), leaf)
+        mark_clear_if(self.lies_in_clear_leaf(at, leaf.node), leaf)
     }
 
-    // A leaf of the eager tree of a root, settled, and a node from which the way to the leaves after it begins, given that for
-    // this leaf: only where it is undecided a judge is asked.
-    fn settled(&self, root: Node, last: Node, leaf: Leaf) -> (Leaf, Node)
+    // Returns a leaf, marked clear if it is undecided and lies in a clear leaf of the search's tree, and the node
+    // from which the descent to the next leaf starts. A judge is asked only for an undecided leaf.
+    fn settle_leaf(&self, root: Node, last: Node, leaf: Leaf) -> (Leaf, Node)
         requires root { IsValid (rules self.now.search.now) root }
         requires last { IsValid (rules self.now.search.now) last }
         requires below { IsBelow self.now.search.now root last }
@@ -101,14 +106,14 @@ impl<'j, 'e, J: Judge> EagerJudge<'j, 'e, J> {
             Mark::Clear => (leaf, last),
             Mark::One(_) => (leaf, last),
             Mark::Undecided => {
-                let near = self.near(root, last, leaf.node);
-                (self.settled_at(root, near, leaf), near)
+                let near = self.near_ancestor(root, last, leaf.node);
+                (self.settle_leaf_below(root, near, leaf), near)
             }
         }
     }
 
-    /// Settles leaves of the eager tree of a root: one that is undecided is clear where it lies in a clear leaf of the tree of
-    /// the search.
+    /// Marks as clear those undecided leaves that lie within clear leaves of the search's tree. The leaves are those
+    /// of the eager tree below a root, in order of time.
     pub fn settle(&self, root: Node, leaves: &mut [Leaf])
         requires valid { IsValid (rules self.now.search.now) root }
         requires time { All HasTime leaves.old }
@@ -116,7 +121,7 @@ impl<'j, 'e, J: Judge> EagerJudge<'j, 'e, J> {
     {
         let mut near = root;
         for leaf in leaves.iter_mut() {
-            let (settled, next) = self.settled(root, near, *leaf);
+            let (settled, next) = self.settle_leaf(root, near, *leaf);
             *leaf = settled;
             near = next;
         }

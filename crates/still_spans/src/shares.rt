@@ -5,26 +5,33 @@ ghost use Rattle.still_spans.specs.Found.{AreInOrder};
 ghost use Rattle.still_spans.specs.Joined.{AreStill};
 
 use crate::cuts::Cuts;
-use crate::joining::{Found, join};
+use crate::joining::{Found, join_shares};
 use crate::still_spans;
-use crate::worth::are_worth;
+use crate::worth::are_spans_worth_seeking;
 use event_judge::EventSearch;
 use spec_stills::StillSpan;
 use std::alloc::{AllocError, Global};
 use std::thread;
 use std::thread::Threads;
 
-// The still spans of one share.
-fn share_spans(alloc: Global, search: &EventSearch, cuts: &Cuts, place: usize) -> Found
+// Returns the still spans of the share at a place, from the time at which it begins to that at which the next one
+// does.
+fn spans_of_share(alloc: Global, search: &EventSearch, cuts: &Cuts, place: usize) -> Found
     requires { place < cuts.now.count }
     ensures { AreStill search.now result }
 {
     let place = place as u32;
-    still_spans(alloc, search, cuts.time(place), cuts.time(place + 1))
+    still_spans(
+        alloc,
+        search,
+        cuts.share_start(place),
+        cuts.share_start(place + 1),
+    )
 }
 
-// The still spans of each share, found at once, each in a thread of its own.
-fn all_shares<R: Threads + Sync>(
+// Returns the still spans of each share in order, found at the same time by a thread for each. The error is out of
+// memory for the list of shares; an error inside a share is its item.
+fn spans_of_each_share<R: Threads + Sync>(
     rt: &R,
     alloc: Global,
     search: &EventSearch,
@@ -39,14 +46,14 @@ fn all_shares<R: Threads + Sync>(
         &|place| -> Found
             requires { place < cuts.now.count }
             ensures { AreStill search.entry.now result }
-        { share_spans(alloc, search, cuts, place) },
+        { spans_of_share(alloc, search, cuts, place) },
     )
 }
 
-/// The still spans of a search from one time to another, as `still_spans` finds them: in order of time, each from the end of
-/// the one before it or later. So many workers look for them at once, up to 64, each in a share of the times; where there is
-/// one, it is `still_spans`. Between two shares a span of one tick may be lost. There are none where none are worth looking
-/// for: where the nodes of the search are not halved, or not so far that a granule has several.
+/// Returns the still spans of a search from one time to another, as `still_spans` finds them, by up to 64 workers.
+/// Each worker looks through a share of the times, so a span of one tick between two shares may be lost. None are
+/// returned if they are not worth looking for: the search does not halve its nodes, or a granule has few of them. The
+/// only error is out of memory.
 pub fn still_spans_by<R: Threads + Sync>(
     rt: &R,
     alloc: Global,
@@ -58,13 +65,13 @@ pub fn still_spans_by<R: Threads + Sync>(
     ensures still { IfOk result (λ found. All (IsStill search.now) found.items) }
     ensures follow { IfOk result (λ found. AreInOrder from found.items) }
 {
-    if !are_worth(search, from, upto) {
+    if !are_spans_worth_seeking(search, from, upto) {
         return Ok(Vec::new(alloc));
     }
     let cuts = Cuts::new(search.ephemeris(), from, upto, workers);
     if cuts.count == 1 {
         return still_spans(alloc, search, from, upto);
     }
-    let shares = all_shares(rt, alloc, search, &cuts)?;
-    join(alloc, from, &shares)
+    let shares = spans_of_each_share(rt, alloc, search, &cuts)?;
+    join_shares(alloc, from, &shares)
 }

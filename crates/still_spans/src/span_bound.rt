@@ -1,5 +1,5 @@
 // Bounds of the function of a search over times of one granule, and the still spans that they tell with a margin.
-ghost use Rattle.std.specs.Prelude.{◌≡◌, ◌≤ℤ◌, ◌<ℤ◌, ℕ, IfSome};
+ghost use Rattle.std.specs.Prelude.{◌≡◌, ◌<ℤ◌, ℕ, IfSome};
 ghost use Rattle.spec_events.specs.Verdict.{is_one_way};
 ghost use Rattle.spec_bodies.specs.Views.{Fits};
 ghost use Rattle.spec_bounds.specs.Steady.{sign_at};
@@ -9,9 +9,9 @@ ghost use Rattle.spec_stills.specs.Margins.{HasMargin, StepsFit};
 ghost use Rattle.span_models.specs.Margins.{margin_of};
 ghost use Rattle.event_bounds.specs.Made.{IsBound};
 ghost use Rattle.still_spans.specs.Found.{IsStillOver, still};
-ghost use Rattle.still_spans.specs.Knowledge.{IsBounded, side};
+ghost use Rattle.still_spans.specs.Knowledge.{IsBounded, IsBoundedOver, side};
 
-use crate::units::{halvings, steps_allowed};
+use crate::units::{halving_count, max_width_by_steps};
 use event_bounds::Bound;
 use event_judge::EventSearch;
 use gf_hooks::{Steps, is_one_way};
@@ -21,14 +21,14 @@ use spec_stills::StillSpan;
 use spec_stills::margin_laws::margins_make_spans_still;
 use spec_stills::still_laws::monotone_spans_are_still;
 
-/// How many leaves the spans of an ephemeris have together of which each is no heavier than its share by its length: half of
-/// those that a search may have.
+/// The number of leaves that all spans of an ephemeris share by their lengths: half of those that a search may have.
 const SHARED_LEAVES: u64 = 1 << 24;
 
-/// How many leaves of a span are few in an ephemeris of one block: in a longer one so many fewer.
+/// The number of leaves that is small for one span of an ephemeris of one block. For more blocks it is divided by their
+/// number.
 const FEW_LEAVES: u64 = 1 << 18;
 
-/// How large the share of a span is, at least, of which the halves are looked at where it is heavier.
+/// The least share, in leaves, of a span that gives way to its halves if it has more leaves than its share.
 const MIN_HALVED_SHARE: u64 = 128;
 
 /// A bound of the function of a search over times of one granule.
@@ -39,16 +39,17 @@ pub(crate) struct SpanBound {
     pub(crate) last: i64,
 }
 
-/// The bound of the function of a search over some times.
-pub(crate) fn bound_between(search: &EventSearch, first: i64, last: i64) -> Bound
+/// Returns the bound of the function of a search over the times from `first` to `last`, which lie in one granule of
+/// each column in use.
+pub(crate) fn function_bound_between(search: &EventSearch, first: i64, last: i64) -> Bound
     requires { Fits search.now.view first last }
     ensures { IsBound result (bound_over search.now.view search.now.event.function first last) }
 {
     search.function_bound(first, last)
 }
 
-// The ends of the interval of the steps, in a unit of their own.
-fn steps(step: &Ival) -> Steps
+// Returns the two ends of an interval of steps, in the interval's own unit.
+fn step_ends(step: &Ival) -> Steps
     ensures lo { result.lo ≡ step.now.lo }
     ensures hi { result.hi ≡ step.now.hi }
 {
@@ -57,7 +58,7 @@ fn steps(step: &Ival) -> Steps
 }
 
 impl SpanBound {
-    /// A bound with its times.
+    /// Keeps a bound of the search's function together with the first and the last time over which it holds.
     pub(crate) fn new(search: &EventSearch, bound: Bound, first: i64, last: i64) -> SpanBound
         requires fits { Fits search.now.view first last }
         requires several { first <ℤ last }
@@ -71,42 +72,42 @@ impl SpanBound {
         SpanBound { bound, first, last }
     }
 
-    // The bound over some times.
-    fn over(search: &EventSearch, first: i64, last: i64) -> SpanBound
+    // Makes the bound of the search's function over the times from `first` to `last`, and keeps it with these times.
+    fn bound_between(search: &EventSearch, first: i64, last: i64) -> SpanBound
         requires fits { Fits search.now.view first last }
         requires several { first <ℤ last }
         ensures bounded { IsBounded search.now result }
         ensures first { result.first ≡ first }
         ensures last { result.last ≡ last }
     {
-        let bound = bound_between(search, first, last);
+        let bound = function_bound_between(search, first, last);
         SpanBound::new(search, bound, first, last)
     }
 
-    // By it the function is monotone over its times.
+    // Tells whether the function only rises, or only falls, over the times of the bound: all its steps have one
+    // direction.
     fn is_monotone(&self) -> bool
         ensures { result ≡ is_one_way self.now.bound.step }
     {
-        is_one_way(steps(&self.bound.step))
+        is_one_way(step_ends(&self.bound.step))
     }
 
-    // How wide a node of its times may be that is clear where the function keeps so far from 0, by its steps.
-    fn by_steps(&self, search: &EventSearch, margin: Margin) -> Option<u64>
+    // Returns the greatest width in ticks of a node that is clear because the steps within it cannot use up the
+    // margin by which the function keeps from 0. None is returned if even one step may be too large.
+    fn clear_width_by_steps(&self, search: &EventSearch, margin: Margin) -> Option<u64>
         requires bounded { IsBounded search.now self.now }
         ensures { let x = self.now in let v = search.now.view in
             IfSome result (λ few. StepsFit
             (bound_over v search.now.event.function x.first x.last) few (margin_of margin)) }
     {
-        steps_allowed(&self.bound, margin)
+        max_width_by_steps(&self.bound, margin)
     }
 
-    // How wide a node from one of its times to another may be that is clear where the function keeps so far from 0: as wide as
-    // it likes, where the function is monotone.
-    fn widest(&self, search: &EventSearch, margin: Margin, a: i64, b: i64) -> u64
-        requires bounded { IsBounded search.now self.now }
-        requires from { self.now.first ≤ℤ a }
-        requires several { a <ℤ b }
-        requires upto { b ≤ℤ self.now.last }
+    // Returns the greatest width in ticks of a node from `a` to `b` that is clear, given the margin by which the
+    // function keeps from 0 there. If the function is monotone each node there is clear; if its steps are too large
+    // only nodes of one tick are.
+    fn widest_clear_width(&self, search: &EventSearch, margin: Margin, a: i64, b: i64) -> u64
+        requires bounded { IsBoundedOver search.now self.now a b }
         requires margin { HasMargin search.now a b (margin_of margin) }
         requires sign { sign_at search.now a ≡ side margin }
         ensures { (k : ℕ) → IsStill search.now (still a b result k (side margin)) }
@@ -116,71 +117,73 @@ impl SpanBound {
         if self.is_monotone() {
             return a.abs_diff(b);
         }
-        match self.by_steps(search, margin) {
+        match self.clear_width_by_steps(search, margin) {
             Some(few) => few,
             None => 1,
         }
     }
 
-    /// The still span from one of its times to another, where the function keeps so far from 0 and the span is of use. Where
-    /// it would be heavy, it is by the bound over these times alone, and left to its halves where it still would be.
-    pub(crate) fn still_by(
+    /// Returns the still span from `a` to `b`, given the margin by which the function keeps from 0 there. If it would
+    /// have too many leaves, a bound over these times alone is tried. None is returned if the search does not cut
+    /// finely enough for the span, or if its halves may serve better.
+    pub(crate) fn still_span_by_margin(
         &self,
         search: &EventSearch,
         margin: Margin,
         a: i64,
         b: i64,
     ) -> Option<StillSpan>
-        requires bounded { IsBounded search.now self.now }
-        requires from { self.now.first ≤ℤ a }
-        requires several { a <ℤ b }
-        requires upto { b ≤ℤ self.now.last }
+        requires bounded { IsBoundedOver search.now self.now a b }
         requires margin { HasMargin search.now a b (margin_of margin) }
         requires sign { sign_at search.now a ≡ side margin }
         ensures { IfSome result (λ still. IsStillOver search.now a b still) }
     {
-        let widest = self.widest(search, margin, a, b);
-        if is_light(search, a, b, widest) {
-            return useful(search, a, b, widest, side(margin));
+        let widest = self.widest_clear_width(search, margin, a, b);
+        if has_few_leaves(search, a, b, widest) {
+            return useful_span(search, a, b, widest, side_sign(margin));
         }
-        let own = SpanBound::over(search, a, b);
-        let wider = own.widest(search, margin, a, b);
-        if MIN_HALVED_SHARE <= share(search, a, b) && !is_light(search, a, b, wider) {
+        let own = SpanBound::bound_between(search, a, b);
+        let wider = own.widest_clear_width(search, margin, a, b);
+        if MIN_HALVED_SHARE <= leaf_share(search, a, b) && !has_few_leaves(search, a, b, wider) {
             return None;
         }
-        useful(search, a, b, wider, side(margin))
+        useful_span(search, a, b, wider, side_sign(margin))
     }
 }
 
-// How many leaves are the share of a span from one time to another, by its length.
-fn share(search: &EventSearch, a: i64, b: i64) -> u64 {
+// Returns how many leaves the span from `a` to `b` may have as its share of 2^24 leaves, which the spans of the
+// ephemeris share by their lengths in ticks.
+fn leaf_share(search: &EventSearch, a: i64, b: i64) -> u64 {
     let ephemeris = search.ephemeris();
     let ticks = ephemeris.start().abs_diff(ephemeris.end()) / SHARED_LEAVES;
     a.abs_diff(b) / ticks.max(1)
 }
 
-// Whether a span from one time to another with nodes so wide has few leaves, or no more than its share.
-fn is_light(search: &EventSearch, a: i64, b: i64, widest: u64) -> bool {
+// Tells whether the span from `a` to `b`, cut into nodes of `widest` ticks, has no more leaves than its share, or
+// than 2^18 divided by the number of blocks of the ephemeris.
+fn has_few_leaves(search: &EventSearch, a: i64, b: i64, widest: u64) -> bool {
     let few = FEW_LEAVES / u64::from(search.ephemeris().blocks()).max(1);
-    a.abs_diff(b) <= widest.saturating_mul(share(search, a, b).max(few))
+    a.abs_diff(b) <= widest.saturating_mul(leaf_share(search, a, b).max(few))
 }
 
-// The sign of numbers on its side of 0.
-fn side(margin: Margin) -> Sign
+// Returns the sign of the numbers on the side of 0 on which a margin is: `Yes` above 0, `No` below.
+fn side_sign(margin: Margin) -> Sign
     ensures { result ≡ side margin }
 {
     if margin.is_above { Sign::Yes } else { Sign::No }
 }
 
-// A span in which nodes so wide are clear, where nodes of the tree become so narrow before too many halvings.
-fn useful(search: &EventSearch, a: i64, b: i64, widest: u64, sign: Sign) -> Option<StillSpan>
+// Returns the still span from `a` to `b`, in which nodes of up to `widest` ticks are clear. None is returned if the
+// search stops splitting above that width, or if a node of the whole span needs more than 12 halvings to come down to
+// it.
+fn useful_span(search: &EventSearch, a: i64, b: i64, widest: u64, sign: Sign) -> Option<StillSpan>
     requires still { (k : ℕ) → IsStill search.now (still a b widest k sign) }
     ensures { IfSome result (λ still. IsStillOver search.now a b still) }
 {
     if widest < search.width() {
         return None;
     }
-    match halvings(a.abs_diff(b), widest) {
+    match halving_count(a.abs_diff(b), widest) {
         Some(halvings) => Some(StillSpan {
             from: a,
             upto: b,

@@ -1,4 +1,4 @@
-// Still spans in order, in which one is found quickly.
+// A list of still spans in order of time, in which one is found by halving.
 ghost use Rattle.std.specs.Prelude.{◌≡◌, ◌<◌, ◌≤◌, get_or, int_le, length, nat_eq};
 ghost use Rattle.spec_stills.specs.declared.still.StillSpan.{StillSpan};
 ghost use Rattle.still_spans.specs.Order.{are_in_order, follow, in_order_or_none, is_next};
@@ -28,21 +28,23 @@ impl Model for StillList {
     ghost invariant = { λ s. are_in_order s.spans.items ≡ true };
 }
 
-// The span begins no earlier than a time, it has some time, and nodes in it are not halved too often.
-fn is_next(time: i64, still: StillSpan) -> bool
+// Tells whether a still span may come next in a list whose last one ends at `time`: it begins there or later, takes
+// some time, and asks for at most 31 halvings.
+fn may_come_next(time: i64, still: StillSpan) -> bool
     ensures { result ≡ is_next time still }
 {
     time <= still.from && still.from < still.upto && still.halvings <= MAX_HALVINGS
 }
 
-// Each span begins no earlier than the one before it ends, and the first no earlier than a time.
+// Tells whether still spans follow one another from the time `first` on: each begins no earlier than the one before
+// it ends, takes some time, and asks for at most 31 halvings.
 #[tactic(auto, using(crate::proofs::FollowingNodes::stops, crate::proofs::FollowingNodes::goes_on))]
-fn follow(first: i64, stills: &[StillSpan]) -> bool
+fn are_in_order_from(first: i64, stills: &[StillSpan]) -> bool
     ensures { result ≡ follow first stills.now }
 {
     let mut time = first;
     for still in stills.iter() {
-        if !is_next(time, *still) {
+        if !may_come_next(time, *still) {
             return false;
         }
         time = still.upto;
@@ -50,18 +52,20 @@ fn follow(first: i64, stills: &[StillSpan]) -> bool
     true
 }
 
-// Each span begins no earlier than the one before it ends.
+// Tells whether still spans may make a list: each begins no earlier than the one before it ends, takes some time, and
+// asks for at most 31 halvings. No spans at all may.
 fn are_in_order(stills: &[StillSpan]) -> bool
     ensures { result ≡ are_in_order stills.now }
 {
     match stills.first() {
-        Some(first) => follow(first.from, stills),
+        Some(first) => are_in_order_from(first.from, stills),
         None => true,
     }
 }
 
 impl StillList {
-    /// The spans, where each begins no earlier than the one before it ends; else none.
+    /// Makes a list of still spans. If a span begins before the one before it ends, takes no time, or asks for more
+    /// than 31 halvings, the list is empty.
     pub fn new(spans: Vec<StillSpan>) -> StillList
         ensures { result ≡ in_order_or_none spans.items }
     {
@@ -74,15 +78,15 @@ impl StillList {
         }
     }
 
-    /// Whether there is none.
+    /// Tells whether the list has no still span.
     pub fn is_empty(&self) -> bool
         ensures { result ≡ nat_eq (length self.now) 0 }
     {
         self.len() == 0
     }
 
-    /// How many of the spans begin no later than a node.
-    pub(crate) fn count_upto(&self, node: Node) -> usize
+    /// Returns the number of still spans that begin no later than a node does, found by halving of the list.
+    pub(crate) fn count_begun_by(&self, node: Node) -> usize
         ensures { IsCount node self.now result }
     {
         self.spans.partition_point(
@@ -92,7 +96,7 @@ impl StillList {
         )
     }
 
-    /// How many spans there are.
+    /// Returns the number of still spans in the list.
     #[inline(always)]
     pub(crate) fn len(&self) -> usize
         ensures { result ≡ length self.now }
@@ -100,9 +104,9 @@ impl StillList {
         self.spans.len()
     }
 
-    /// The span at a place.
+    /// Returns the still span at a place, counted from 0 in order of time.
     #[inline(always)]
-    pub(crate) fn span(&self, place: usize) -> StillSpan
+    pub(crate) fn span_at(&self, place: usize) -> StillSpan
         requires { place < length self.now }
         ensures span { (d : StillSpan) → result ≡ get_or self.now place d }
         ensures few { result.halvings ≤ MAX_HALVINGS }

@@ -7,38 +7,46 @@ ghost use Rattle.event_bounds.specs.Made.{IsBound};
 ghost use Rattle.spec_stills.specs.Still.{IsStill};
 ghost use Rattle.still_spans.specs.Found.{AreFound, AreInOrder};
 
-use crate::granules::{fits, last_before_border};
+use crate::granules::{has_no_border_between, last_time_in_granules};
 use crate::halves::{DEEPEST, MAX_TRIES, Walk};
 use crate::known::Known;
-use crate::quiet::quiet_over;
-use crate::span_bound::{SpanBound, bound_between};
+use crate::quiet::quiet_span;
+use crate::span_bound::{SpanBound, function_bound_between};
 use event_bounds::Bound;
 use event_judge::EventSearch;
+use event_models::ModelRooms;
 use spec_stills::StillSpan;
 use std::alloc::{AllocError, Global};
 
 impl Walk {
-    // Adds the still spans from one time to another, where no granule begins between them: all of it, where the bound of the
-    // function has one sign, or as its model tells.
-    fn add_granule(&mut self, search: &EventSearch, a: i64, b: i64) -> Result<(), AllocError>
+    // Adds the still spans from `a` to `b`, if these times lie in one granule of each column in use. It is one span
+    // if the bound of the function has one sign, and else what a model of the function shows. The only error is out
+    // of memory.
+    fn add_spans_of_granule(
+        &mut self,
+        search: &EventSearch,
+        a: i64,
+        b: i64,
+    ) -> Result<(), AllocError>
         requires from { search.now.view.ephemeris.start ≤ℤ a }
         requires ordered { a ≤ℤ b }
         requires upto { b ≤ℤ end_of search.now.view.ephemeris }
         ensures { (from : ℤ) → AreFound search.now from self.old.found.items a
             → OnOk result (AreFound search.now from self.new.found.items b) }
     {
-        if a == b || !fits(search, a, b) {
+        if a == b || !has_no_border_between(search, a, b) {
             return Ok(());
         }
-        let bound = bound_between(search, a, b);
-        match quiet_over(search, &bound, a, b) {
-            Some(still) => self.add(search, a, b, still),
-            None => self.add_modelled(search, bound, a, b),
+        let bound = function_bound_between(search, a, b);
+        match quiet_span(search, &bound, a, b) {
+            Some(still) => self.add_span(search, a, b, still),
+            None => self.add_spans_by_model(search, bound, a, b),
         }
     }
 
-    // The same, by a model of the function and its bound.
-    fn add_modelled(
+    // Adds the still spans from `a` to `b` that a model of the function and its bound show. Nothing is added if the
+    // function has no model there. The only error is out of memory.
+    fn add_spans_by_model(
         &mut self,
         search: &EventSearch,
         bound: Bound,
@@ -52,17 +60,17 @@ impl Walk {
             → OnOk result (AreFound search.now from self.new.found.items b) }
     {
         let over = SpanBound::new(search, bound, a, b);
-        match Known::over(search, a, b) {
+        match Known::model_function(search, &mut self.rooms, a, b) {
             Some(known) => {
                 self.tries = MAX_TRIES;
-                self.add_halves(search, &known, &over, a, b, DEEPEST)
+                self.add_spans_within(search, &known, &over, a, b, DEEPEST)
             }
             None => Ok(()),
         }
     }
 }
 
-// The last time of the granule in which a time lies, or another if that is earlier.
+// Returns the last time of the granules in which `here` lies, or `upto` if that is earlier.
 fn granule_end(search: &EventSearch, here: i64, upto: i64) -> i64
     requires from { search.now.view.ephemeris.start ≤ℤ here }
     requires several { here <ℤ upto }
@@ -70,11 +78,12 @@ fn granule_end(search: &EventSearch, here: i64, upto: i64) -> i64
     ensures from { here ≤ℤ result }
     ensures upto { result ≤ℤ upto }
 {
-    last_before_border(search, here).max(here).min(upto)
+    last_time_in_granules(search, here).max(here).min(upto)
 }
 
-// Those between two times of the ephemeris.
-fn between(
+// Returns the still spans between two times of the ephemeris, in order, found granule by granule. The only error is
+// out of memory.
+fn still_spans_between(
     alloc: Global,
     search: &EventSearch,
     from: i64,
@@ -89,18 +98,20 @@ fn between(
     let mut walk = Walk {
         found: Vec::new(alloc),
         tries: 0,
+        rooms: ModelRooms::new(),
     };
     let mut here = from;
     while here < upto {
         let end = granule_end(search, here, upto);
-        walk.add_granule(search, here, end)?;
+        walk.add_spans_of_granule(search, here, end)?;
         here = end + 1;
     }
     Ok(walk.found)
 }
 
-/// The still spans of a search from one time to another, as many as models of its function tell: in order of time, each from
-/// the end of the one before it or later. Times before the ephemeris begins and after it ends are left out.
+/// Returns the still spans of a search from one time to another that bounds and models of its function show, in order
+/// of time. Each begins where the one before it ends, or later. Times outside the ephemeris are left out. The only
+/// error is out of memory.
 pub fn still_spans(
     alloc: Global,
     search: &EventSearch,
@@ -112,5 +123,5 @@ pub fn still_spans(
 {
     let ephemeris = search.ephemeris();
     let (first, last) = (from.max(ephemeris.start()), upto.min(ephemeris.end()));
-    between(alloc, search, first, last)
+    still_spans_between(alloc, search, first, last)
 }

@@ -7,12 +7,13 @@ use eph_model::Ephemeris;
 use event_judge::EventSearch;
 use gf_hooks::CutRule;
 
-/// Into how many parts the tree of a search cuts a granule at least, where still spans are worth their cost. No promise rests
+/// The least number of parts into which a tree must cut a granule for still spans to be worth their cost. No promise rests
 /// on it.
 const FEWEST_PARTS: u64 = 8;
 
-// How many ticks the shortest granule of some columns takes.
-fn shortest_granule(ephemeris: &Ephemeris, columns: &[usize], time: i64) -> u64
+// Returns the length in ticks of the shortest granule that one of the columns has at a time. Without columns it is
+// the greatest number of 64 bits.
+fn shortest_granule_length(ephemeris: &Ephemeris, columns: &[usize], time: i64) -> u64
     requires present { All (λ column. IsTrue (has_column ephemeris.now.header column)) columns.now }
     requires block { 0 < ephemeris.now.blocks }
     requires from { ephemeris.now.start ≤ℤ time }
@@ -25,27 +26,29 @@ fn shortest_granule(ephemeris: &Ephemeris, columns: &[usize], time: i64) -> u64
     shortest
 }
 
-// Whether nodes of so many parts of a granule are above the limits of a search over some times.
-fn cuts_granules(search: &EventSearch, first: i64, last: i64) -> bool
+// Tells whether a search between two times may cut even the shortest granule into eight parts or more, by its least
+// width and its greatest depth. The remainder by 64 keeps the shift within the number's bits: depths of a search are
+// below 64.
+fn cuts_granules_finely(search: &EventSearch, first: i64, last: i64) -> bool
     requires from { search.now.view.ephemeris.start ≤ℤ first }
     requires several { first <ℤ last }
     requires upto { last ≤ℤ end_of search.now.view.ephemeris }
 {
     let columns = search.states().columns();
-    let shortest = shortest_granule(search.ephemeris(), columns, first);
+    let shortest = shortest_granule_length(search.ephemeris(), columns, first);
     let deepest = last.abs_diff(first) >> (search.depth() % 64);
     deepest.max(search.width()) <= shortest / FEWEST_PARTS
 }
 
-/// Whether still spans are worth looking for between two times: where the search halves its nodes, and where its limits of
-/// width and of depth let it cut a granule into several parts. Elsewhere hardly any node is served.
-pub(crate) fn are_worth(search: &EventSearch, from: i64, upto: i64) -> bool {
+/// Tells whether still spans are worth looking for between two times: the search halves its nodes, and its limits let
+/// it cut a granule into several parts. Else hardly any node would be served.
+pub(crate) fn are_spans_worth_seeking(search: &EventSearch, from: i64, upto: i64) -> bool {
     match search.rule() {
         CutRule::Third => false,
         CutRule::Half => {
             let ephemeris = search.ephemeris();
             let (first, last) = (from.max(ephemeris.start()), upto.min(ephemeris.end()));
-            first < last && cuts_granules(search, first, last)
+            first < last && cuts_granules_finely(search, first, last)
         }
     }
 }

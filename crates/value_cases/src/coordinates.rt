@@ -2,10 +2,10 @@
 ghost use Rattle.std.specs.Prelude.{◌<◌, IfOk};
 ghost use Rattle.spec_bodies.specs.Views.{Fits};
 
-use crate::enclosures::{EnclosureParts, enclosure_parts, parts_of};
+use crate::enclosures::{EnclosureParts, next_enclosure_parts, parts_of_enclosure};
 use crate::fields::{Fields, RowError};
 use crate::formulas::has_enclosure;
-use crate::scenes::{View, next_scene, span, states};
+use crate::scenes::{View, next_scene, next_span, states_of_scene};
 use body_states::{BodyStates, Quantity, States};
 use eph_model::Ephemeris;
 use event_expr::Formula;
@@ -25,8 +25,8 @@ struct Coordinate {
     axis: u8,
 }
 
-// Returns the quantity of this name.
-fn quantity(name: &str) -> Result<Quantity, RowError> {
+// Returns the quantity that has this name, `position` or `velocity`. Any other word is malformed.
+fn quantity_of_name(name: &str) -> Result<Quantity, RowError> {
     match name {
         "position" => Ok(Quantity::Position),
         "velocity" => Ok(Quantity::Velocity),
@@ -34,14 +34,14 @@ fn quantity(name: &str) -> Result<Quantity, RowError> {
     }
 }
 
-// Reads a coordinate: a quantity, a target and an axis.
+// Reads a coordinate: a quantity, the number of a target, 0 or 1, and the number of an axis, 0 to 2.
 fn next_coordinate(fields: &mut Fields<'_>) -> Result<Coordinate, RowError>
     ensures target { IfOk result (λ c. c.target < 2) }
     ensures axis { IfOk result (λ c. c.axis < 3) }
 {
-    let quantity = quantity(fields.word()?)?;
-    let target = fields.number::<u8>()?;
-    let axis = fields.number::<u8>()?;
+    let quantity = quantity_of_name(fields.next_word()?)?;
+    let target = fields.next_number::<u8>()?;
+    let axis = fields.next_number::<u8>()?;
     if target < TARGETS && axis < AXES {
         Ok(Coordinate {
             quantity,
@@ -53,20 +53,20 @@ fn next_coordinate(fields: &mut Fields<'_>) -> Result<Coordinate, RowError>
     }
 }
 
-// Returns the enclosure that the states give of a coordinate.
-fn given(states: &BodyStates<'_>, c: Coordinate, a: i64, b: i64) -> EnclosureParts
+// Returns the numbers of the enclosure that the states give of a coordinate from time `a` to `b`.
+fn enclosure_by_states(states: &BodyStates<'_>, c: Coordinate, a: i64, b: i64) -> EnclosureParts
     requires target { c.target < 2 }
     requires axis { c.axis < 3 }
     requires fits { Fits states.now a b }
 {
     match c.quantity {
-        Quantity::Position => parts_of(&states.pos(c.target, c.axis, a, b)),
-        Quantity::Velocity => parts_of(&states.vel(c.target, c.axis, a, b)),
+        Quantity::Position => parts_of_enclosure(&states.pos(c.target, c.axis, a, b)),
+        Quantity::Velocity => parts_of_enclosure(&states.vel(c.target, c.axis, a, b)),
     }
 }
 
-// Returns the formula that is a coordinate alone.
-fn formula_of(c: Coordinate) -> Result<Formula, RowError>
+// Returns the formula that consists of one coordinate alone.
+fn formula_of_coordinate(c: Coordinate) -> Result<Formula, RowError>
     requires target { c.target < 2 }
     requires axis { c.axis < 3 }
 {
@@ -80,19 +80,20 @@ fn formula_of(c: Coordinate) -> Result<Formula, RowError>
     }
 }
 
-// Reads a count of columns and their numbers, and tells whether the states use these.
+// Reads a count of columns and their numbers, and tells whether the states use exactly these, in this order.
 fn columns_agree(states: &BodyStates<'_>, fields: &mut Fields<'_>) -> Result<bool, RowError> {
     let columns = states.columns();
-    let count = fields.number::<usize>()?;
+    let count = fields.next_number::<usize>()?;
     let mut agree = columns.len() == count;
     for place in 0..count {
-        let number = fields.number::<usize>()?;
+        let number = fields.next_number::<usize>()?;
         agree = agree && columns.get(place) == Some(&number);
     }
     Ok(agree)
 }
 
-// Reads the enclosure of a coordinate, and tells whether both the states and a formula give it.
+// Reads the enclosure of a coordinate from time `a` to `b`, and tells whether both the states and the formula of the
+// coordinate give it.
 fn enclosure_agrees(
     states: &BodyStates<'_>,
     c: Coordinate,
@@ -104,21 +105,21 @@ fn enclosure_agrees(
     requires axis { c.axis < 3 }
     requires fits { Fits states.now a b }
 {
-    let expected = enclosure_parts(fields)?;
-    let is_given = given(states, c, a, b) == expected;
-    let formula = formula_of(c)?;
+    let expected = next_enclosure_parts(fields)?;
+    let is_given = enclosure_by_states(states, c, a, b) == expected;
+    let formula = formula_of_coordinate(c)?;
     Ok(has_enclosure(&formula, View { states, a, b }, &expected) && is_given)
 }
 
 /// Compares a coordinate: the row has two targets, an observer, a frame, a coordinate, the first and the last time,
-/// the coordinate's enclosure, and the columns in use.
+/// the coordinate's enclosure over these times, and the columns in use.
 pub(crate) fn coordinate_agrees(
     ephemeris: &Ephemeris,
     fields: &mut Fields<'_>,
 ) -> Result<bool, RowError> {
-    let states = states(ephemeris, next_scene(fields)?)?;
+    let states = states_of_scene(ephemeris, next_scene(fields)?)?;
     let coordinate = next_coordinate(fields)?;
-    let (a, b) = span(ephemeris, &states, fields)?;
+    let (a, b) = next_span(ephemeris, &states, fields)?;
     let is_coordinate = enclosure_agrees(&states, coordinate, a, b, fields)?;
     let are_columns = columns_agree(&states, fields)?;
     Ok(is_coordinate && are_columns)

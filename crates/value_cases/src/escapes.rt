@@ -10,8 +10,8 @@ enum EscapeState {
     AfterDigit(u8),
 }
 
-// Returns the value of a hexadecimal digit, whose letters are capitals.
-fn digit(byte: u8) -> Result<u8, RowError> {
+// Returns the value, 0 to 15, of a hexadecimal digit, whose letters are capitals. Any other byte is malformed.
+fn hex_digit_value(byte: u8) -> Result<u8, RowError> {
     match byte {
         b'0'..=b'9' => Ok(byte - b'0'),
         b'A'..=b'F' => Ok(byte - b'A' + 10),
@@ -19,8 +19,9 @@ fn digit(byte: u8) -> Result<u8, RowError> {
     }
 }
 
-// Adds a byte outside of an escape, and returns what was read then.
-fn add_plain(bytes: &mut Vec<u8>, byte: u8) -> Result<EscapeState, RowError> {
+// Takes a byte of a field that is not part of an escape: adds a blank for `~`, nothing for `%`, which begins an
+// escape, and any other byte as it is. Returns the state after the byte.
+fn add_plain_byte(bytes: &mut Vec<u8>, byte: u8) -> Result<EscapeState, RowError> {
     match byte {
         b'%' => Ok(EscapeState::AfterPercent),
         b'~' => {
@@ -34,28 +35,30 @@ fn add_plain(bytes: &mut Vec<u8>, byte: u8) -> Result<EscapeState, RowError> {
     }
 }
 
-// Adds a byte after what was read before it, and returns what was read then.
-fn add(bytes: &mut Vec<u8>, place: EscapeState, byte: u8) -> Result<EscapeState, RowError> {
+// Takes the next byte of a field, and adds to `bytes` the byte that it completes, if any: after `%` two hexadecimal
+// digits make one byte. Returns the state after the byte.
+fn add_byte(bytes: &mut Vec<u8>, place: EscapeState, byte: u8) -> Result<EscapeState, RowError> {
     match place {
-        EscapeState::Plain => add_plain(bytes, byte),
-        EscapeState::AfterPercent => Ok(EscapeState::AfterDigit(digit(byte)?)),
+        EscapeState::Plain => add_plain_byte(bytes, byte),
+        EscapeState::AfterPercent => Ok(EscapeState::AfterDigit(hex_digit_value(byte)?)),
         EscapeState::AfterDigit(high) => {
-            bytes.push(high.wrapping_mul(16).wrapping_add(digit(byte)?))?;
+            bytes.push(high.wrapping_mul(16).wrapping_add(hex_digit_value(byte)?))?;
             Ok(EscapeState::Plain)
         }
     }
 }
 
-/// Returns the bytes of a field: `~` is a blank, `%` with two hexadecimal digits is the byte of that number, `%`
-/// alone is no byte at all, and each other byte is itself.
-pub(crate) fn unescaped(alloc: Global, field: &str) -> Result<Vec<u8>, RowError> {
+/// Returns the bytes that a field stands for: `~` is a blank, `%` with two hexadecimal digits is the byte of that
+/// number, `%` alone is no byte at all, and each other byte is itself. A field that ends within an escape is
+/// malformed.
+pub(crate) fn unescaped_bytes(alloc: Global, field: &str) -> Result<Vec<u8>, RowError> {
     let mut bytes = Vec::new(alloc);
     if field == "%" {
         return Ok(bytes);
     }
     let mut place = EscapeState::Plain;
     for &byte in field.as_bytes() {
-        place = add(&mut bytes, place, byte)?;
+        place = add_byte(&mut bytes, place, byte)?;
     }
     match place {
         EscapeState::Plain => Ok(bytes),

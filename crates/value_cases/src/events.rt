@@ -2,18 +2,22 @@
 ghost use Rattle.spec_bodies.specs.Views.{Fits};
 ghost use Rattle.spec_kinds.specs.Asks.{IsAsk};
 
-use crate::asks::{ask, scene_of};
-use crate::enclosures::{EnclosureParts, enclosure_parts};
+use crate::asks::{next_ask, scene_of_ask};
+use crate::enclosures::{EnclosureParts, next_enclosure_parts};
 use crate::fields::{Fields, RowError};
 use crate::formulas::has_enclosure;
-use crate::scenes::{View, span, states};
+use crate::scenes::{View, next_span, states_of_scene};
 use eph_model::Ephemeris;
 use event_kinds::{Event, Guard, KindFault, event};
 use spec_kinds::Ask;
 use std::alloc::Global;
 
-/// Returns the event of an ask that has no fault. A fault is malformed here.
-pub(crate) fn event_of(alloc: Global, ephemeris: &Ephemeris, ask: &Ask) -> Result<Event, RowError>
+/// Returns the event of an ask: its function, its guards and its direction. An ask with a fault is malformed here.
+pub(crate) fn event_of_ask(
+    alloc: Global,
+    ephemeris: &Ephemeris,
+    ask: &Ask,
+) -> Result<Event, RowError>
     requires { IsAsk ask.now }
 {
     match event(alloc, ephemeris, ask) {
@@ -23,25 +27,26 @@ pub(crate) fn event_of(alloc: Global, ephemeris: &Ephemeris, ask: &Ask) -> Resul
     }
 }
 
-// Tells whether the fault of an ask has this number.
-fn has_number(fault: KindFault, number: u8) -> Result<bool, RowError> {
+// Tells whether the fault of an ask has this number, as reports of the program print it. Out of memory, which is no
+// fault of the ask, stays an error.
+fn fault_has_number(fault: KindFault, number: u8) -> Result<bool, RowError> {
     match fault.event_fault() {
         Some(fault) => Ok(fault.number() == number),
         None => Err(RowError::Memory),
     }
 }
 
-/// Compares a refusal: the row has an ask, and the number of the fault in it.
+/// Compares a refusal: the row has an ask, and the number of the fault for which it has no event.
 pub(crate) fn refusal_agrees(
     alloc: Global,
     ephemeris: &Ephemeris,
     fields: &mut Fields<'_>,
 ) -> Result<bool, RowError> {
-    let ask = ask(fields)?;
-    let number = fields.number::<u8>()?;
+    let ask = next_ask(fields)?;
+    let number = fields.next_number::<u8>()?;
     match event(alloc, ephemeris, &ask) {
         Ok(_) => Ok(false),
-        Err(fault) => has_number(fault, number),
+        Err(fault) => fault_has_number(fault, number),
     }
 }
 
@@ -53,21 +58,22 @@ struct ExpectedGuard {
     enclosure: EnclosureParts,
 }
 
-// Reads what is expected of a guard.
+// Reads what a row expects of a guard: `at_least` or `below`, for a formula that has to be at least 0 or below 0, and
+// the enclosure of that formula.
 fn expected_guard(fields: &mut Fields<'_>) -> Result<ExpectedGuard, RowError> {
-    let at_least = match fields.word()? {
+    let at_least = match fields.next_word()? {
         "at_least" => true,
         "below" => false,
         _ => return Err(RowError::Malformed),
     };
-    let enclosure = enclosure_parts(fields)?;
+    let enclosure = next_enclosure_parts(fields)?;
     Ok(ExpectedGuard {
         at_least,
         enclosure,
     })
 }
 
-// Whether there is a guard, and it is as expected.
+// Tells whether there is a guard, and it has the expected side and enclosure over the times of the view.
 fn guard_agrees(guard: Option<&Guard>, view: View<'_, '_>, expected: &ExpectedGuard) -> bool
     requires { Fits view.states.now view.a view.b }
 {
@@ -80,7 +86,8 @@ fn guard_agrees(guard: Option<&Guard>, view: View<'_, '_>, expected: &ExpectedGu
     }
 }
 
-// Reads how many guards there are and what each is, and tells whether they are these.
+// Reads a count of guards and what is expected of each, and tells whether the given guards are as many and agree in
+// this order.
 fn guards_agree(
     guards: &[Guard],
     view: View<'_, '_>,
@@ -88,7 +95,7 @@ fn guards_agree(
 ) -> Result<bool, RowError>
     requires { Fits view.states.now view.a view.b }
 {
-    let count = fields.number::<usize>()?;
+    let count = fields.next_number::<usize>()?;
     let mut agree = guards.len() == count;
     for place in 0..count {
         let expected = expected_guard(fields)?;
@@ -97,7 +104,8 @@ fn guards_agree(
     Ok(agree)
 }
 
-// Reads the enclosures of a function and of its guards, and tells whether they are those of an event.
+// Reads the enclosure of a function and those of guards, and tells whether the function and the guards of the event
+// have them over the times of the view.
 fn formulas_agree(
     event: &Event,
     view: View<'_, '_>,
@@ -105,22 +113,22 @@ fn formulas_agree(
 ) -> Result<bool, RowError>
     requires { Fits view.states.now view.a view.b }
 {
-    let expected = enclosure_parts(fields)?;
+    let expected = next_enclosure_parts(fields)?;
     let is_function = has_enclosure(event.function(), view, &expected);
     let are_guards = guards_agree(event.guards(), view, fields)?;
     Ok(is_function && are_guards)
 }
 
-// Reads the first and the last time, the enclosure of the function and the guards, and tells whether they are those
-// of an ask's event.
+// Reads what a row expects of the event of an ask: the first and the last time, the enclosure of its function, and its
+// guards. Tells whether the event has these over those times, and the direction of the ask.
 fn meaning_agrees(
     ephemeris: &Ephemeris,
     ask: &Ask,
     event: &Event,
     fields: &mut Fields<'_>,
 ) -> Result<bool, RowError> {
-    let states = states(ephemeris, scene_of(ask))?;
-    let (a, b) = span(ephemeris, &states, fields)?;
+    let states = states_of_scene(ephemeris, scene_of_ask(ask))?;
+    let (a, b) = next_span(ephemeris, &states, fields)?;
     let are_formulas = formulas_agree(
         event,
         View {
@@ -133,14 +141,14 @@ fn meaning_agrees(
     Ok(are_formulas && event.dir() == ask.dir)
 }
 
-/// Compares an event: the row has an ask, the first and the last time, the enclosure of the event's function, and its
-/// guards.
+/// Compares the event of an ask: the row has the ask, the first and the last time, the enclosure of the event's
+/// function over these times, and its guards.
 pub(crate) fn event_agrees(
     alloc: Global,
     ephemeris: &Ephemeris,
     fields: &mut Fields<'_>,
 ) -> Result<bool, RowError> {
-    let ask = ask(fields)?;
-    let event = event_of(alloc, ephemeris, &ask)?;
+    let ask = next_ask(fields)?;
+    let event = event_of_ask(alloc, ephemeris, &ask)?;
     meaning_agrees(ephemeris, &ask, &event, fields)
 }

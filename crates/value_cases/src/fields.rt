@@ -1,5 +1,5 @@
 // The fields of a row, taken one by one.
-use crate::escapes::unescaped;
+use crate::escapes::unescaped_bytes;
 use std::alloc::{AllocError, AllocFailed, Global};
 use std::str::FromStr;
 
@@ -13,14 +13,14 @@ pub enum RowError {
 }
 
 impl<T: Drop> From<AllocFailed<T>> for RowError {
-    // Returns out of memory, and drops what found no room.
+    // Returns the error of a row for which memory ran out, and drops the value that found no room.
     fn from(_: AllocFailed<T>) -> Self {
         RowError::Memory
     }
 }
 
 impl From<AllocError> for RowError {
-    // Returns out of memory.
+    // Returns the error of a row for which memory ran out.
     fn from(_: AllocError) -> Self {
         RowError::Memory
     }
@@ -33,18 +33,18 @@ pub struct Fields<'a> {
 }
 
 impl<'a> Fields<'a> {
-    /// Returns all fields of a row.
+    /// Returns the fields of a row, none of which is taken. Fields are separated by one blank.
     pub fn new(row: &'a str) -> Self {
         Fields { rest: Some(row) }
     }
 
-    /// Tells whether no field is left.
+    /// Tells whether all fields of the row are taken.
     pub fn is_at_end(&self) -> bool {
         self.rest.is_none()
     }
 
-    /// Takes the next field as it stands. Without one the row is malformed.
-    pub fn word(&mut self) -> Result<&'a str, RowError> {
+    /// Takes the next field, and returns it as it stands in the row. If no field is left, the row is malformed.
+    pub fn next_word(&mut self) -> Result<&'a str, RowError> {
         let Some(rest) = self.rest else {
             return Err(RowError::Malformed);
         };
@@ -60,23 +60,25 @@ impl<'a> Fields<'a> {
         }
     }
 
-    /// Takes the next field as a number. Another word is malformed.
-    pub fn number<N: FromStr>(&mut self) -> Result<N, RowError>
+    /// Takes the next field, and returns the number that it is. A field that is no number of the wanted type is
+    /// malformed.
+    pub fn next_number<N: FromStr>(&mut self) -> Result<N, RowError>
     where
         <N as FromStr>::Err: Drop,
     {
-        match self.word()?.parse::<N>() {
+        match self.next_word()?.parse::<N>() {
             Ok(number) => Ok(number),
             Err(_) => Err(RowError::Malformed),
         }
     }
 
-    /// The next field as a number, or the word `none`.
-    pub fn number_or_none<N: FromStr>(&mut self) -> Result<Option<N>, RowError>
+    /// Takes the next field, and returns the number that it is, or none for the word `none`. Any other field is
+    /// malformed.
+    pub fn next_number_or_none<N: FromStr>(&mut self) -> Result<Option<N>, RowError>
     where
         <N as FromStr>::Err: Drop,
     {
-        match self.word()? {
+        match self.next_word()? {
             "none" => Ok(None),
             word => match word.parse::<N>() {
                 Ok(number) => Ok(Some(number)),
@@ -85,9 +87,9 @@ impl<'a> Fields<'a> {
         }
     }
 
-    /// The bytes of the next field: `~` is a blank, `%` with two hexadecimal digits is the byte of that number, and `%`
-    /// alone is no byte at all.
-    pub fn bytes(&mut self, alloc: Global) -> Result<Vec<u8>, RowError> {
-        unescaped(alloc, self.word()?)
+    /// Takes the next field, and returns the bytes that it stands for: `~` is a blank, `%` with two hexadecimal digits
+    /// is the byte of that number, and `%` alone is no byte at all.
+    pub fn next_bytes(&mut self, alloc: Global) -> Result<Vec<u8>, RowError> {
+        unescaped_bytes(alloc, self.next_word()?)
     }
 }

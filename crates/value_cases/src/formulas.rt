@@ -3,10 +3,10 @@ ghost use Rattle.std.specs.Prelude.{◌≡◌};
 ghost use Rattle.spec_bodies.specs.Views.{Fits, state_enclosure};
 ghost use Rattle.spec_searches.specs.Search.{enclosure_over};
 
-use crate::enclosures::{EnclosureParts, enclosure_parts, parts_of};
-use crate::expressions::expression;
+use crate::enclosures::{EnclosureParts, next_enclosure_parts, parts_of_enclosure};
+use crate::expressions::next_expression;
 use crate::fields::{Fields, RowError};
-use crate::scenes::{View, next_scene, span, states};
+use crate::scenes::{View, next_scene, next_span, states_of_scene};
 use body_states::BodyStates;
 use column_steps::{MAX_STEPS, StepList};
 use eph_model::Ephemeris;
@@ -15,8 +15,8 @@ use ival_core::Enclosure;
 use std::alloc::Global;
 use step_enclosures::{StepEnclosures, blank};
 
-// Returns the enclosure of a formula over a snapshot, for which the columns of the wanted coordinates are made at
-// once.
+// Returns the enclosure of a formula from time `a` to `b` over a snapshot of the states, as searches compute it. The
+// columns of the coordinates in `wanted` are made with the snapshot, and others when they are read.
 fn enclosure_by_steps(
     formula: &Formula,
     states: &BodyStates<'_>,
@@ -33,8 +33,8 @@ fn enclosure_by_steps(
     StepEnclosures::new(&snapshot, &steps, &mut slots).enclosure(place)
 }
 
-/// Tells whether a formula has this enclosure: over the states themselves, over a snapshot with the columns of its
-/// coordinates made at once, and over one with none made.
+/// Tells whether a formula has the expected enclosure, computed in three ways: over the states themselves, over a
+/// snapshot for which all columns of its coordinates are made at once, and over one for which none is.
 pub(crate) fn has_enclosure(
     formula: &Formula,
     view: View<'_, '_>,
@@ -43,31 +43,31 @@ pub(crate) fn has_enclosure(
     requires { Fits view.states.now view.a view.b }
 {
     let (states, a, b) = (view.states, view.a, view.b);
-    let asked = parts_of(&enclose(formula, states, a, b));
-    let made = parts_of(&enclosure_by_steps(formula, states, a, b, &formula.leaves()));
-    let read = parts_of(&enclosure_by_steps(formula, states, a, b, &Leaves::none()));
+    let asked = parts_of_enclosure(&enclose(formula, states, a, b));
+    let made = parts_of_enclosure(&enclosure_by_steps(formula, states, a, b, &formula.leaves()));
+    let read = parts_of_enclosure(&enclosure_by_steps(formula, states, a, b, &Leaves::none()));
     asked == *expected && made == *expected && read == *expected
 }
 
-// Reads a formula.
-fn formula(alloc: Global, fields: &mut Fields<'_>) -> Result<Formula, RowError> {
-    match Formula::new(expression(alloc, fields)?) {
+// Reads an expression, and returns it as a formula. An expression that passes a limit of formulas is malformed.
+fn next_formula(alloc: Global, fields: &mut Fields<'_>) -> Result<Formula, RowError> {
+    match Formula::new(next_expression(alloc, fields)?) {
         Ok(formula) => Ok(formula),
         Err(_) => Err(RowError::Malformed),
     }
 }
 
-/// Compares a formula: the row has two targets, an observer, a frame, the first and the last time, a formula and its
-/// enclosure.
+/// Compares the enclosure of a formula: the row has two targets, an observer, a frame, the first and the last time,
+/// the formula and its enclosure over these times.
 pub(crate) fn formula_agrees(
     alloc: Global,
     ephemeris: &Ephemeris,
     fields: &mut Fields<'_>,
 ) -> Result<bool, RowError> {
-    let states = states(ephemeris, next_scene(fields)?)?;
-    let (a, b) = span(ephemeris, &states, fields)?;
-    let formula = formula(alloc, fields)?;
-    let expected = enclosure_parts(fields)?;
+    let states = states_of_scene(ephemeris, next_scene(fields)?)?;
+    let (a, b) = next_span(ephemeris, &states, fields)?;
+    let formula = next_formula(alloc, fields)?;
+    let expected = next_enclosure_parts(fields)?;
     Ok(has_enclosure(
         &formula,
         View {
@@ -79,8 +79,8 @@ pub(crate) fn formula_agrees(
     ))
 }
 
-// Returns the limit of this name, or none for `none`.
-fn fault_of_name(name: &str) -> Result<Option<ExprFault>, RowError> {
+// Returns the limit of formulas that has this name, or none for `none`. Any other word is malformed.
+fn limit_of_name(name: &str) -> Result<Option<ExprFault>, RowError> {
     match name {
         "none" => Ok(None),
         "nodes" => Ok(Some(ExprFault::Nodes)),
@@ -90,11 +90,11 @@ fn fault_of_name(name: &str) -> Result<Option<ExprFault>, RowError> {
     }
 }
 
-/// Compares the limits of formulas: the row has the first limit that an expression passes, or none, and the
+/// Compares which limit of formulas an expression passes first: the row has the name of the limit, or `none`, and the
 /// expression.
 pub(crate) fn limit_agrees(alloc: Global, fields: &mut Fields<'_>) -> Result<bool, RowError> {
-    let expected = fault_of_name(fields.word()?)?;
-    match Formula::new(expression(alloc, fields)?) {
+    let expected = limit_of_name(fields.next_word()?)?;
+    match Formula::new(next_expression(alloc, fields)?) {
         Ok(_) => Ok(expected.is_none()),
         Err(fault) => Ok(expected == Some(fault)),
     }

@@ -3,8 +3,8 @@ ghost use Rattle.std.specs.Prelude.{◌<◌, IsTrue};
 ghost use Rattle.spec_ephemeris.specs.Header.{has_column};
 
 use crate::fields::{Fields, RowError};
-use crate::parts::{decimal, pair};
-use crate::texts::ephemeris_of;
+use crate::parts::{next_decimal, next_pair};
+use crate::texts::ephemeris_of_file;
 use eph_model::Ephemeris;
 use spec_text::Decimal;
 
@@ -19,19 +19,21 @@ struct Shape {
     first: Decimal,
 }
 
-// Reads what is known of a granule.
+// Reads what a row expects of a granule: its first time, its seconds, the coefficients of a component, the number of
+// components, and the first coefficient.
 fn expected_shape(fields: &mut Fields<'_>) -> Result<Shape, RowError> {
     Ok(Shape {
-        start: fields.number::<i64>()?,
-        seconds: fields.number::<i64>()?,
-        coefficients: fields.number::<usize>()?,
-        components: fields.number::<usize>()?,
-        first: decimal(fields)?,
+        start: fields.next_number::<i64>()?,
+        seconds: fields.next_number::<i64>()?,
+        coefficients: fields.next_number::<usize>()?,
+        components: fields.next_number::<usize>()?,
+        first: next_decimal(fields)?,
     })
 }
 
-// The granule of a column at a time, of an ephemeris that has both.
-fn shape_at(ephemeris: &Ephemeris, column: usize, t: i64) -> Result<Shape, RowError>
+// Returns what rows have of the granule of a column that holds a time. The ephemeris has this column and a block at
+// least; a time outside of it is malformed.
+fn shape_of_granule_at(ephemeris: &Ephemeris, column: usize, t: i64) -> Result<Shape, RowError>
     requires present { IsTrue (has_column ephemeris.now.header column) }
     requires block { 0 < ephemeris.now.blocks }
 {
@@ -51,8 +53,14 @@ fn shape_at(ephemeris: &Ephemeris, column: usize, t: i64) -> Result<Shape, RowEr
     }
 }
 
-// Returns the border of a present column in a span of the ephemeris, or none.
-fn border_in(ephemeris: &Ephemeris, column: usize, a: i64, b: i64) -> Result<Option<i64>, RowError>
+// Returns the granule border of a column that is nearest to the middle of the times from `a` to `b`, or none if no
+// border is among them. A span that is empty or leaves the ephemeris is malformed.
+fn border_in_span(
+    ephemeris: &Ephemeris,
+    column: usize,
+    a: i64,
+    b: i64,
+) -> Result<Option<i64>, RowError>
     requires { IsTrue (has_column ephemeris.now.header column) }
 {
     if a < ephemeris.start() || b <= a || ephemeris.end() < b {
@@ -61,27 +69,27 @@ fn border_in(ephemeris: &Ephemeris, column: usize, a: i64, b: i64) -> Result<Opt
     Ok(ephemeris.border_near(&[column], a, b))
 }
 
-/// Compares a granule of an ephemeris: the row has a column and a time, the granule that is read there, and the
-/// border that is nearest to the middle of a span.
+/// Compares a granule of a given ephemeris: the row has a column and a time, what is known of the granule there, a
+/// span, and the border of the column that is nearest to the middle of the span, or `none`.
 pub(crate) fn granule_of_column_agrees(
     ephemeris: &Ephemeris,
     fields: &mut Fields<'_>,
 ) -> Result<bool, RowError> {
-    let column = fields.number::<usize>()?;
+    let column = fields.next_number::<usize>()?;
     if ephemeris.blocks() == 0 || !ephemeris.has(column) {
         return Err(RowError::Malformed);
     }
-    let shape = shape_at(ephemeris, column, fields.number::<i64>()?)?;
+    let shape = shape_of_granule_at(ephemeris, column, fields.next_number::<i64>()?)?;
     let expected = expected_shape(fields)?;
-    let (a, b) = pair(fields)?;
-    let border = border_in(ephemeris, column, a, b)?;
-    let is_border = fields.number_or_none::<i64>()? == border;
+    let (a, b) = next_pair(fields)?;
+    let border = border_in_span(ephemeris, column, a, b)?;
+    let is_border = fields.next_number_or_none::<i64>()? == border;
     Ok(is_border && shape == expected)
 }
 
-/// Compares a granule: the row has a file, a column and a time, the granule that is read there, and the border that
-/// is nearest to the middle of a span.
+/// Compares a granule: the row has the file of an ephemeris, a column and a time, what is known of the granule there,
+/// a span, and the border of the column that is nearest to the middle of the span, or `none`.
 pub(crate) fn granule_agrees(rt: &HostRuntime, fields: &mut Fields<'_>) -> Result<bool, RowError> {
-    let ephemeris = ephemeris_of(rt, fields.word()?)?;
+    let ephemeris = ephemeris_of_file(rt, fields.next_word()?)?;
     granule_of_column_agrees(&ephemeris, fields)
 }

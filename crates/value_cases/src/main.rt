@@ -38,7 +38,8 @@ use std::io;
 use std::process::ExitCode;
 use tables::compare_tables;
 
-// Compares the tables that the command line names, and exits with the status of that.
+// Compares the tables of rows that the command line names, and exits with 0 if no row differs, 1 if one does, or 2 if
+// a table cannot be read.
 fn main(rt: HostRuntime) -> io::Result<ExitCode> {
     compare_tables(&rt)
 }

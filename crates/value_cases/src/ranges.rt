@@ -3,7 +3,7 @@ ghost use Rattle.std.specs.Prelude.{◌<◌, ◌≤ℤ◌, ◌+ℤ◌};
 ghost use Rattle.spec_motions.specs.Granules.{IsEvaluable};
 
 use crate::fields::{Fields, RowError};
-use crate::parts::{Parts, decimal, interval_parts, pair};
+use crate::parts::{Parts, next_decimal, next_interval_parts, next_pair};
 use cheby_difference::{position_step, velocity, velocity_step};
 use cheby_enclose::{is_evaluable, position};
 use eph_model::{Granule, Rounded, pair_of};
@@ -23,8 +23,8 @@ const COMPONENTS: usize = 3;
 // The most coefficients of a component.
 const MAX_COEFFICIENTS: usize = 32;
 
-// Reads the coefficients of all components of a granule.
-fn coefficients(
+// Reads the coefficients of the three components of a granule, `n` of each. More than 32 of each are malformed.
+fn next_coefficients(
     alloc: Global,
     fields: &mut Fields<'_>,
     n: usize,
@@ -34,13 +34,14 @@ fn coefficients(
         return Err(RowError::Malformed);
     }
     for _ in 0..COMPONENTS * n {
-        coefs.push(decimal(fields)?)?;
+        coefs.push(next_decimal(fields)?)?;
     }
     Ok(coefs)
 }
 
-// Returns the rounded pairs of coefficients. A coefficient of 2^36 km or more is malformed.
-fn pairs(alloc: Global, coefs: &[Decimal]) -> Result<Vec<Rounded>, RowError> {
+// Returns each coefficient, in km, rounded down and up to a whole number of units of 2^-24 km. A coefficient of 2^36
+// km or more in magnitude is malformed.
+fn rounded_pairs(alloc: Global, coefs: &[Decimal]) -> Result<Vec<Rounded>, RowError> {
     let mut pairs = Vec::new(alloc);
     for &c in coefs {
         if !is_distance(c.mant, c.exp) {
@@ -51,8 +52,9 @@ fn pairs(alloc: Global, coefs: &[Decimal]) -> Result<Vec<Rounded>, RowError> {
     Ok(pairs)
 }
 
-// Returns the intervals of the position, of its step, of the velocity and of its step.
-fn all_four(g: &Granule, axis: usize, a: i64, b: i64) -> [Parts; 4]
+// Returns the intervals of a position along an axis, of its change from one time to the next, of the velocity, and of
+// its change, over the times from `a` to `b`.
+fn ranges_over_span(g: &Granule, axis: usize, a: i64, b: i64) -> [Parts; 4]
     requires granule { IsEvaluable g.now }
     requires axis { axis < g.now.comps }
     requires from { g.now.start ≤ℤ a }
@@ -67,9 +69,9 @@ fn all_four(g: &Granule, axis: usize, a: i64, b: i64) -> [Parts; 4]
     ]
 }
 
-// Returns the four intervals over a span of a granule. A granule that cannot be evaluated, or a span outside of it,
-// is malformed.
-fn checked(g: &Granule, axis: usize, a: i64, b: i64) -> Result<[Parts; 4], RowError> {
+// Returns the intervals of a position along an axis, of its step, of the velocity and of its step, over the times from
+// `a` to `b`. A granule that cannot be evaluated, or a span outside of it, is malformed.
+fn checked_ranges(g: &Granule, axis: usize, a: i64, b: i64) -> Result<[Parts; 4], RowError> {
     if !is_evaluable(g) || axis >= g.comps {
         return Err(RowError::Malformed);
     }
@@ -80,7 +82,7 @@ fn checked(g: &Granule, axis: usize, a: i64, b: i64) -> Result<[Parts; 4], RowEr
     if a < g.start || b < a || end < b {
         return Err(RowError::Malformed);
     }
-    Ok(all_four(g, axis, a, b))
+    Ok(ranges_over_span(g, axis, a, b))
 }
 
 // A granule without its coefficients, of which each axis has `n`, with an axis and a span.
@@ -94,12 +96,13 @@ struct Scope {
     b: i64,
 }
 
-// Reads a granule without its coefficients, an axis and a span.
+// Reads a granule without its coefficients, an axis and a span: the granule's first time and seconds, the coefficients
+// of a component, the number of the axis, and the first and the last time.
 fn next_scope(fields: &mut Fields<'_>) -> Result<Scope, RowError> {
-    let (start, seconds) = pair(fields)?;
-    let n = fields.number::<usize>()?;
-    let axis = fields.number::<usize>()?;
-    let (a, b) = pair(fields)?;
+    let (start, seconds) = next_pair(fields)?;
+    let n = fields.next_number::<usize>()?;
+    let axis = fields.next_number::<usize>()?;
+    let (a, b) = next_pair(fields)?;
     Ok(Scope {
         start,
         seconds,
@@ -110,18 +113,23 @@ fn next_scope(fields: &mut Fields<'_>) -> Result<Scope, RowError> {
     })
 }
 
-// Reads the four intervals of a row.
+// Reads the four intervals that a row expects: of the position, of its step, of the velocity and of its step.
 fn expected_ranges(fields: &mut Fields<'_>) -> Result<[Parts; 4], RowError> {
-    let position = interval_parts(fields)?;
-    let position_step = interval_parts(fields)?;
-    let velocity = interval_parts(fields)?;
-    let velocity_step = interval_parts(fields)?;
+    let position = next_interval_parts(fields)?;
+    let position_step = next_interval_parts(fields)?;
+    let velocity = next_interval_parts(fields)?;
+    let velocity_step = next_interval_parts(fields)?;
     Ok([position, position_step, velocity, velocity_step])
 }
 
-// Returns the four intervals over the span of the granule with these coefficients.
-fn ranges_of(alloc: Global, scope: &Scope, coefs: &[Decimal]) -> Result<[Parts; 4], RowError> {
-    let rounded = pairs(alloc, coefs)?;
+// Returns the intervals of the position, of its step, of the velocity and of its step over the axis and the span of a
+// scope, for the granule with these coefficients.
+fn ranges_of_scope(
+    alloc: Global,
+    scope: &Scope,
+    coefs: &[Decimal],
+) -> Result<[Parts; 4], RowError> {
+    let rounded = rounded_pairs(alloc, coefs)?;
     let granule = Granule {
         start: scope.start,
         seconds: scope.seconds,
@@ -130,15 +138,15 @@ fn ranges_of(alloc: Global, scope: &Scope, coefs: &[Decimal]) -> Result<[Parts; 
         coefs,
         rounded: &rounded,
     };
-    checked(&granule, scope.axis, scope.a, scope.b)
+    checked_ranges(&granule, scope.axis, scope.a, scope.b)
 }
 
-/// Compares the four intervals over a span: the row has a granule's first time, length and count of coefficients, an
-/// axis, a span, the coefficients of all three axes, and the intervals of the position, of its step, of the velocity,
-/// and of its step.
+/// Compares four intervals over a span: the row has a granule's first time, length and count of coefficients, an axis,
+/// a span, the coefficients of all three axes, and the intervals of the position, of its step, of the velocity and of
+/// its step. A step is the change from one time to the next.
 pub(crate) fn ranges_agree(alloc: Global, fields: &mut Fields<'_>) -> Result<bool, RowError> {
     let scope = next_scope(fields)?;
-    let coefs = coefficients(alloc, fields, scope.n)?;
-    let found = ranges_of(alloc, &scope, &coefs)?;
+    let coefs = next_coefficients(alloc, fields, scope.n)?;
+    let found = ranges_of_scope(alloc, &scope, &coefs)?;
     Ok(expected_ranges(fields)? == found)
 }

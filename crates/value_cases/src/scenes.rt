@@ -7,8 +7,8 @@ ghost use Rattle.spec_bodies.specs.Sources.{source_of, needed_columns};
 ghost use Rattle.spec_bodies.specs.Views.{Fits};
 
 use crate::fields::{Fields, RowError};
-use crate::names::{body, frame};
-use crate::parts::pair;
+use crate::names::{next_body, next_frame};
+use crate::parts::next_pair;
 use body_states::BodyStates;
 use eph_model::{Body, Ephemeris};
 use spec_bodies::{EMB_COLUMN, Frame, MOON_COLUMN, Source};
@@ -21,17 +21,17 @@ pub(crate) struct Scene {
     pub(crate) frame: Frame,
 }
 
-/// Reads a scene from four fields.
+/// Reads a scene: two targets, the observer and the frame.
 pub(crate) fn next_scene(fields: &mut Fields<'_>) -> Result<Scene, RowError> {
     Ok(Scene {
-        targets: [body(fields)?, body(fields)?],
-        observer: body(fields)?,
-        frame: frame(fields)?,
+        targets: [next_body(fields)?, next_body(fields)?],
+        observer: next_body(fields)?,
+        frame: next_frame(fields)?,
     })
 }
 
-// Tells whether the ephemeris has all columns that a body needs.
-fn has(ephemeris: &Ephemeris, body: Body) -> bool
+// Tells whether the ephemeris has all columns from which the states of a body are computed.
+fn has_columns_of_body(ephemeris: &Ephemeris, body: Body) -> bool
     ensures { result ≡ list_all (has_column ephemeris.now.header) (needed_columns (source_of body)) }
 {
     match Source::of(body) {
@@ -43,15 +43,19 @@ fn has(ephemeris: &Ephemeris, body: Body) -> bool
     }
 }
 
-/// Returns the states of the targets of a scene. A scene that the ephemeris cannot show is malformed.
-pub(crate) fn states<'e>(ephemeris: &'e Ephemeris, scene: Scene) -> Result<BodyStates<'e>, RowError>
+/// Returns the states of the two targets of a scene over the ephemeris. A scene is malformed if the ephemeris lacks a
+/// column of a body or has no block, if a target is the barycentre of the solar system, or if it is the observer.
+pub(crate) fn states_of_scene<'e>(
+    ephemeris: &'e Ephemeris,
+    scene: Scene,
+) -> Result<BodyStates<'e>, RowError>
     ensures { IfOk result (λ states. states.ephemeris ≡ ephemeris.now) }
 {
     let [first, second] = scene.targets;
     let observer = scene.observer;
-    let has_first = has(ephemeris, first);
-    let has_second = has(ephemeris, second);
-    let has_observer = has(ephemeris, observer);
+    let has_first = has_columns_of_body(ephemeris, first);
+    let has_second = has_columns_of_body(ephemeris, second);
+    let has_observer = has_columns_of_body(ephemeris, observer);
     if ephemeris.blocks() == 0 || !has_first || !has_second || !has_observer {
         return Err(RowError::Malformed);
     }
@@ -69,8 +73,9 @@ pub(crate) struct View<'v, 'e> {
     pub(crate) b: i64,
 }
 
-// Whether no granule of a column in use begins after the first time and up to the last.
-fn is_free(ephemeris: &Ephemeris, states: &BodyStates<'_>, a: i64, b: i64) -> bool
+// Tells whether no granule of a column in use begins after time `a` and up to `b`, so that the states can be asked for
+// these times.
+fn is_free_of_borders(ephemeris: &Ephemeris, states: &BodyStates<'_>, a: i64, b: i64) -> bool
     requires ephemeris { states.now.ephemeris ≡ ephemeris.now }
     requires from { ephemeris.now.start ≤ℤ a }
     requires order { a ≤ℤ b }
@@ -85,8 +90,9 @@ fn is_free(ephemeris: &Ephemeris, states: &BodyStates<'_>, a: i64, b: i64) -> bo
     }
 }
 
-/// Reads the first and the last time of a row. Times that the states cannot be asked for are malformed.
-pub(crate) fn span(
+/// Reads the first and the last time at which states are asked for. Times outside of the ephemeris, or with a border
+/// of a column in use between them, are malformed.
+pub(crate) fn next_span(
     ephemeris: &Ephemeris,
     states: &BodyStates<'_>,
     fields: &mut Fields<'_>,
@@ -94,11 +100,11 @@ pub(crate) fn span(
     requires { states.now.ephemeris ≡ ephemeris.now }
     ensures { IfOk result (λ span. Fits states.now span.0 span.1) }
 {
-    let (a, b) = pair(fields)?;
+    let (a, b) = next_pair(fields)?;
     if a < ephemeris.start() || b < a || ephemeris.end() < b {
         return Err(RowError::Malformed);
     }
-    if is_free(ephemeris, states, a, b) {
+    if is_free_of_borders(ephemeris, states, a, b) {
         Ok((a, b))
     } else {
         Err(RowError::Malformed)

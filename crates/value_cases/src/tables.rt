@@ -1,6 +1,6 @@
 // Tables of rows, compared row by row.
 use crate::fields::{Fields, RowError};
-use crate::rows::agrees;
+use crate::rows::fields_agree;
 use std::process::ExitCode;
 use std::{env, fs, io, str};
 
@@ -17,10 +17,10 @@ struct Tally {
     differing: u64,
 }
 
-// Tells whether a row agrees. A row with fields left over is malformed.
+// Tells whether the code gives the values that a row expects. A row with fields left over is malformed.
 fn row_agrees(rt: &HostRuntime, row: &str) -> Result<bool, RowError> {
     let mut fields = Fields::new(row);
-    let agrees = agrees(rt, &mut fields)?;
+    let agrees = fields_agree(rt, &mut fields)?;
     if fields.is_at_end() {
         Ok(agrees)
     } else {
@@ -28,13 +28,14 @@ fn row_agrees(rt: &HostRuntime, row: &str) -> Result<bool, RowError> {
     }
 }
 
-// Tells whether a line is a row: it is not empty, and does not start with `#`.
+// Tells whether a line of a table is a row: it is not empty, and does not start with `#`.
 fn is_row(line: &str) -> bool {
     !line.is_empty() && !line.starts_with('#')
 }
 
-// Compares a row, prints it where it differs, and counts it. None where it cannot be read.
-fn add_row(rt: &HostRuntime, row: &str, tally: Tally) -> io::Result<Option<Tally>> {
+// Compares a row with what the code gives, and returns the counts with this row added. A row that differs is printed.
+// None if the row cannot be read, which is printed too.
+fn compare_row(rt: &HostRuntime, row: &str, tally: Tally) -> io::Result<Option<Tally>> {
     let rows = tally.rows.saturating_add(1);
     match row_agrees(rt, row) {
         Ok(true) => Ok(Some(Tally { rows, ..tally })),
@@ -53,15 +54,15 @@ fn add_row(rt: &HostRuntime, row: &str, tally: Tally) -> io::Result<Option<Tally
     }
 }
 
-// Compares the rows of a table, and returns how many there are and how many differ. None where a row cannot be read.
-fn tally_of(rt: &HostRuntime, text: &str) -> io::Result<Option<Tally>> {
+// Compares the rows of a table, and returns how many there are and how many differ. None if a row cannot be read.
+fn tally_of_table(rt: &HostRuntime, text: &str) -> io::Result<Option<Tally>> {
     let mut tally = Tally {
         rows: 0,
         differing: 0,
     };
     for line in text.lines() {
         if is_row(line) {
-            let Some(next) = add_row(rt, line, tally)? else {
+            let Some(next) = compare_row(rt, line, tally)? else {
                 return Ok(None);
             };
             tally = next;
@@ -70,18 +71,19 @@ fn tally_of(rt: &HostRuntime, text: &str) -> io::Result<Option<Tally>> {
     Ok(Some(tally))
 }
 
-// Compares the table of this name, and returns its counts. None where it is no text, or a row cannot be read.
+// Compares the rows of the table in the file of this name, and returns how many there are and how many differ. None if
+// the file is not UTF-8, or a row cannot be read.
 fn tally_of_file(rt: &HostRuntime, name: &str) -> io::Result<Option<Tally>> {
     let bytes = fs::read(rt, name)?;
     match str::from_utf8(&bytes) {
-        Ok(text) => tally_of(rt, text),
+        Ok(text) => tally_of_table(rt, text),
         Err(_) => Ok(None),
     }
 }
 
-// Compares the table of this name, prints its counts, and tells whether a row differs. None where it cannot be read
-// as a table.
-fn differs(rt: &HostRuntime, name: &str) -> io::Result<Option<bool>> {
+// Compares the table of this name, prints how many rows it has and how many differ, and tells whether any differs.
+// None if it cannot be read as a table.
+fn table_differs(rt: &HostRuntime, name: &str) -> io::Result<Option<bool>> {
     let Some(tally) = tally_of_file(rt, name)? else {
         eprintln!(rt; "{name} can't be read as a table")?;
         return Ok(None);
@@ -92,11 +94,12 @@ fn differs(rt: &HostRuntime, name: &str) -> io::Result<Option<bool>> {
 }
 
 /// Compares the tables that the words of the command line name, and prints the rows that differ and how many rows
-/// there are. The status is 0 where no row differs, 1 where one does, and 2 where a table cannot be read.
+/// there are. The status is 0 if no row differs, 1 if one does, and 2 if a table cannot be read, after which no
+/// further table is compared.
 pub fn compare_tables(rt: &HostRuntime) -> io::Result<ExitCode> {
     let mut status = 0u8;
     for name in env::args(rt)?.skip(1) {
-        match differs(rt, &name)? {
+        match table_differs(rt, &name)? {
             Some(true) => status = DIFFERENT,
             Some(false) => {}
             None => return Ok(ExitCode::from(NOT_READ)),

@@ -1,6 +1,6 @@
 -- Words that look as a picture does.
 use Rattle.std.proofs.Common.{◌≡◌, ◌==◌, ℕ, suc, ◌+◌, ◌-◌, ◌^◌, ◌-ℤ◌, pos, neg_ℤ, ◌<◌, ◌≤◌, ◌&&◌, take, Bool, true, false, List, [], ◌∷◌, codes, length, drop, get_or, refl, sym, ap, ◌∙◌, arith, to_z, of_z, w64, Option, Some, None, if◌then◌else◌}
-use Rattle.std.proofs.lemmas.List.{length-drop, length-take-le, take_all}
+use Rattle.std.proofs.lemmas.List.{length-drop, take_all}
 use Rattle.std.proofs.Math.Seq.{drop-cons, drop-length}
 use Rattle.std.proofs.lemmas.Int.{ints, to_z_pos}
 use Rattle.spec_text.specs.Decimals.{value}
@@ -39,12 +39,6 @@ form_at_end picture word i e same =
     let other : drop i word ≡ [] = rw (e ∙ same) (drop-length word) in
     λ j. has_form (one j) (other j)
 
--- what follows the first k bytes
-pub length_after : (word : List ℕ) (k n : ℕ) → length word ≡ k + n → length (take (length word - k) (drop k word)) ≡ n
-length_after word k n e =
-    let left = length-drop k word in
-    length-take-le (length word - k) (drop k word) (omega (arith, left, e)) ∙ omega (arith, e)
-
 -- ---- how long a word is that has a form
 
 pub has_year : (word picture : List ℕ) (b : Bool) → picture ≡ year_form → b ≡ has_form picture word → has_form year_form word ≡ b
@@ -72,18 +66,25 @@ module _ (word : List ℕ) where
   unfoldable by_forms : Bool → Bool → Option CalendarTime
   by_forms dated negative = if dated then Some (calendar_after (pos (year_digits word)) (drop 4 word)) else (if negative then Some (calendar_after (neg_ℤ (pos (negative_year_digits word))) (drop 7 word)) else None)
 
-  pub shown_year : (c : CalendarTime) (n : ℕ) → has_form year_form word ≡ true → n < 10 ^ 14 → n ≡ year_digits word → c ≡ calendar_after (to_z w64 n) (take (length word - 4) (drop 4 word)) → Some c ≡ shown word
-  unfolding by_forms
-  shown_year c n dated small digits is =
-      let after : c ≡ calendar_after (pos (year_digits word)) (drop 4 word) = is ∙ λ i. calendar_after ((to_z_pos w64 n (omega (arith, small)) ∙ ap pos digits) i) (rest_is word 4 i) in
-      ap Some after ∙ λ i. by_forms (sym dated i) (has_negative_year word)
+  -- its fields, by the digits of the year
+  pub fields_of_year : (c : CalendarTime) (n : ℕ) → n < 10 ^ 14 → n ≡ year_digits word → c ≡ calendar_after (to_z w64 n) (take (length word - 4) (drop 4 word))
+      → c ≡ calendar_after (pos (year_digits word)) (drop 4 word)
+  fields_of_year c n small digits is = is ∙ λ i. calendar_after ((to_z_pos w64 n (omega (arith, small)) ∙ ap pos digits) i) (rest_is word 4 i)
 
-  pub shown_negative_year : (c : CalendarTime) (n : ℕ) → has_form year_form word ≡ false → has_negative_year word ≡ true → n < 10 ^ 14 → n ≡ negative_year_digits word → c ≡ calendar_after (to_z w64 (of_z w64 (pos 0 -ℤ to_z w64 n))) (take (length word - 7) (drop 7 word)) → Some c ≡ shown word
-  unfolding by_forms
-  shown_negative_year c n dated negative small digits is =
+  pub fields_of_negative_year : (c : CalendarTime) (n : ℕ) → n < 10 ^ 14 → n ≡ negative_year_digits word
+      → c ≡ calendar_after (to_z w64 (of_z w64 (pos 0 -ℤ to_z w64 n))) (take (length word - 7) (drop 7 word)) → c ≡ calendar_after (neg_ℤ (pos (negative_year_digits word))) (drop 7 word)
+  fields_of_negative_year c n small digits is =
       let turned : to_z w64 (of_z w64 (pos 0 -ℤ to_z w64 n)) ≡ neg_ℤ (pos n) = rw (to_z_pos w64 n (omega (arith, small))) (omega (arith, ints, small)) in
-      let after : c ≡ calendar_after (neg_ℤ (pos (negative_year_digits word))) (drop 7 word) = is ∙ λ i. calendar_after ((turned ∙ ap (λ k. neg_ℤ (pos k)) digits) i) (rest_is word 7 i) in
-      ap Some after ∙ λ i. by_forms (sym dated i) (sym negative i)
+      is ∙ λ i. calendar_after ((turned ∙ ap (λ k. neg_ℤ (pos k)) digits) i) (rest_is word 7 i)
+
+  pub shown_year : (c : CalendarTime) → has_form year_form word ≡ true → c ≡ calendar_after (pos (year_digits word)) (drop 4 word) → Some c ≡ shown word
+  unfolding by_forms
+  shown_year c dated is = ap Some is ∙ λ i. by_forms (sym dated i) (has_negative_year word)
+
+  pub shown_negative_year : (c : CalendarTime) → has_form year_form word ≡ false → has_negative_year word ≡ true
+      → c ≡ calendar_after (neg_ℤ (pos (negative_year_digits word))) (drop 7 word) → Some c ≡ shown word
+  unfolding by_forms
+  shown_negative_year c dated negative is = ap Some is ∙ λ i. by_forms (sym dated i) (sym negative i)
 
   pub shown_none : has_form year_form word ≡ false → has_negative_year word ≡ false → None ≡ shown word
   unfolding by_forms

@@ -4,7 +4,7 @@ ghost use Rattle.spec_output.specs.Report.{certain_count, undecided_count};
 
 use spec_trees::{Holds, Window};
 
-/// Counts the windows that hold exactly one event.
+/// Returns the number of windows of a list that hold exactly one event.
 pub(crate) fn certain_count(windows: &[Window]) -> usize
     ensures { result ≡ certain_count windows.now }
 {
@@ -17,7 +17,7 @@ pub(crate) fn certain_count(windows: &[Window]) -> usize
     count
 }
 
-/// Counts the windows that are undecided: they may hold events, and may hold none.
+/// Returns the number of undecided windows of a list, each of which may hold any number of events or none.
 pub(crate) fn undecided_count(windows: &[Window]) -> usize
     ensures { result ≡ undecided_count windows.now }
 {

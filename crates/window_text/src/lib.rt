@@ -1,7 +1,7 @@
-//! Texts of times, and of what a search found. A time comes in, and its calendar text goes out; a word comes in, and the
-//! time that it stands for goes out; a request with its span and windows or sets comes in, or an ephemeris, and the bytes
-//! of a report or a summary go out. Times are ticks since J2000 in TDB, of which a second has one or 1,000; those of an
-//! ephemeris that is summed up are seconds, and those of a scalar are whole numbers.
+//! Texts of times, and of what a search found. A time comes in, and its calendar text goes out; a word comes in, and
+//! the time that it stands for goes out; a request with its span and windows or sets comes in, or an ephemeris, and the
+//! bytes of a report or a summary go out. Times are ticks since J2000 in TDB, of which a second has one or 1,000; those
+//! of an ephemeris that is summed up are seconds, and those of a scalar are whole numbers.
 #![tactic(auto)]
 
 mod counting;

@@ -1,11 +1,17 @@
-// Pieces of a line: a name and a value after it. Calls fail only where memory is out.
+// Pieces of a line: a name and a value after it. Calls fail only if memory runs out.
 ghost use Rattle.std.specs.Prelude.{◌≡◌, ◌++◌, OnOk, codes, string_bytes};
-ghost use Rattle.std.specs.Fmt.{decimal, signed_decimal};
+ghost use Rattle.std.specs.Fmt.{decimal};
 
+use itoa::Integer;
 use std::alloc::AllocError;
 
-/// Appends a name and a value after it. Blanks between them belong to the name.
-pub(crate) fn add_pair(text: &mut String, name: &str, value: &str) -> Result<(), AllocError>
+/// Appends a name and then a value to a line. A blank between them has to be part of the name. The only error is out of
+/// memory.
+pub(crate) fn add_name_and_value(
+    text: &mut String,
+    name: &str,
+    value: &str,
+) -> Result<(), AllocError>
     ensures { OnOk result (string_bytes text.new
         ≡ string_bytes text.old ++ (name.now ++ value.now)) }
 {
@@ -13,29 +19,22 @@ pub(crate) fn add_pair(text: &mut String, name: &str, value: &str) -> Result<(),
     text.push_str(value)
 }
 
-/// Appends a name and a number in decimal digits.
-pub(crate) fn add_number(text: &mut String, name: &str, number: u64) -> Result<(), AllocError>
-    ensures { OnOk result (string_bytes text.new
-        ≡ string_bytes text.old ++ (name.now ++ decimal number)) }
-{
-    let mut buffer = itoa::Buffer::new();
-    add_pair(text, name, buffer.format(number))
-}
-
-/// Appends a name and a number in decimal digits, with a minus sign below 0.
-pub(crate) fn add_signed_number(
+/// Appends a name and then a number in decimal digits to a line, with a minus sign before a number below 0. The only
+/// error is out of memory.
+pub(crate) fn add_number<I: Integer>(
     text: &mut String,
     name: &str,
-    number: i64,
+    number: I,
 ) -> Result<(), AllocError>
     ensures { OnOk result (string_bytes text.new
-        ≡ string_bytes text.old ++ (name.now ++ signed_decimal number)) }
+        ≡ string_bytes text.old ++ (name.now ++ I.text number)) }
 {
     let mut buffer = itoa::Buffer::new();
-    add_pair(text, name, buffer.format(number))
+    add_name_and_value(text, name, buffer.format(number))
 }
 
-/// Appends a name, a number in decimal digits, and the text that ends the line.
+/// Appends a name, a number in decimal digits, and the text `end`, which ends the line. The only error is out of
+/// memory.
 pub(crate) fn add_last_number(
     text: &mut String,
     name: &str,
@@ -49,7 +48,7 @@ pub(crate) fn add_last_number(
     text.push_str(end)
 }
 
-/// Appends a line feed.
+/// Appends a line feed to a text. The only error is out of memory.
 pub(crate) fn add_line_feed(text: &mut String) -> Result<(), AllocError>
     ensures { OnOk result (string_bytes text.new ≡ string_bytes text.old ++ codes "\n") }
 {

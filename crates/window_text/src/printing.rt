@@ -1,4 +1,4 @@
-// The calendar text of a time. Calls that append fail only where memory is out.
+// The calendar text of a time. Calls that append fail only if memory runs out.
 ghost use Rattle.std.specs.Prelude.{◌≡◌, ◌<◌, ◌++◌, IfOk, OnOk, string_bytes, unsigned_abs};
 ghost use Rattle.std.specs.Fmt.{decimal};
 ghost use Rattle.jiff_core.specs.Calendar.{IsYear};
@@ -14,31 +14,33 @@ use spec_ephemeris::DAY;
 use spec_times::{HALF_DAY, J2000_DAY};
 use std::alloc::{AllocError, Global};
 
-/// Returns the calendar text `YYYY-MM-DDTHH:MM:SS` of a time in ticks since J2000 in TDB, from Julian date 0 to
-/// Julian date 5,000,000. Where a second has 1,000 ticks, a point and three digits follow: the ticks past the second.
-/// A year below 0 has a sign and six digits; the year before 1 is 0. The only error is out of memory.
+/// Returns the calendar text of a time in ticks since J2000 in TDB, from Julian date 0 to 5,000,000. It is
+/// `YYYY-MM-DDTHH:MM:SS`, and for ticks of milliseconds also a point and three digits. A year below 0 has a minus sign
+/// and six digits. The only error is out of memory.
 pub fn time_text(alloc: Global, time: i64, tick: u32) -> Result<String, Memory>
     requires tick { IsTick tick }
     requires time { IsTimeIn tick time }
     ensures { IfOk result (λ text. string_bytes text ≡ tick_text tick time) }
 {
     let mut text = String::new(alloc);
-    add_tick(&mut text, tick, time)?;
+    add_time_in_ticks(&mut text, tick, time)?;
     Ok(text)
 }
 
-/// Appends the calendar text of a time in ticks since J2000 in TDB.
-pub(crate) fn add_tick(text: &mut String, tick: u32, time: i64) -> Result<(), AllocError>
+/// Appends the calendar text of a time in ticks since J2000 in TDB to a text. A second has `tick` ticks. The only error
+/// is out of memory.
+pub(crate) fn add_time_in_ticks(text: &mut String, tick: u32, time: i64) -> Result<(), AllocError>
     requires tick { IsTick tick }
     requires time { IsTimeIn tick time }
     ensures { OnOk result (string_bytes text.new ≡ string_bytes text.old ++ tick_text tick time) }
 {
-    add_time(text, second_of(tick, time))?;
+    add_time(text, second_of_time(tick, time))?;
     add_fraction(text, tick, ticks_past_second(tick, time))
 }
 
-// Returns the second that a time in ticks lies in: the last whole second at or before it, since J2000 in TDB.
-fn second_of(tick: u32, time: i64) -> i64
+// Returns the last whole second at or before a time in ticks. Both are counted from J2000 in TDB, and a second has
+// `tick` ticks.
+fn second_of_time(tick: u32, time: i64) -> i64
     requires tick { IsTick tick }
     requires time { IsTimeIn tick time }
     ensures second { result ≡ second_of tick time }
@@ -47,7 +49,7 @@ fn second_of(tick: u32, time: i64) -> i64
     time.div_euclid(i64::from(tick))
 }
 
-// Returns the ticks from the last whole second to the time: 0 to 999.
+// Returns the number of ticks from the last whole second to a time in ticks: 0 to 999. A second has `tick` ticks.
 fn ticks_past_second(tick: u32, time: i64) -> u32
     requires { IsTick tick }
     ensures past { result ≡ past_second tick time }
@@ -56,7 +58,8 @@ fn ticks_past_second(tick: u32, time: i64) -> u32
     time.rem_euclid(i64::from(tick)) as u32
 }
 
-// Appends a point and the three digits of the ticks past a second, or nothing where a tick is a second.
+// Appends a point and three digits for the ticks past a second, from 0 to 999, or nothing if a tick is a second. The
+// only error is out of memory.
 fn add_fraction(text: &mut String, tick: u32, past: u32) -> Result<(), AllocError>
     requires { past < 1_000 }
     ensures { OnOk result (string_bytes text.new
@@ -65,31 +68,34 @@ fn add_fraction(text: &mut String, tick: u32, past: u32) -> Result<(), AllocErro
     if tick == 1 {
         return Ok(());
     }
+    let mut buffer = itoa::Buffer::new();
     text.push_str(".")?;
-    add_three_digits(text, past)
+    text.push_str(leading_zeros(past))?;
+    text.push_str(buffer.format(past))
 }
 
-/// Appends the calendar text of a time in whole seconds since J2000 in TDB.
+/// Appends the calendar text of a time in whole seconds since J2000 in TDB to a text. The only error is out of memory.
 pub(crate) fn add_time(text: &mut String, time: i64) -> Result<(), AllocError>
     requires { IsTime time }
     ensures { OnOk result (string_bytes text.new ≡ string_bytes text.old ++ time_text time) }
 {
-    add_calendar(text, date_of(time), clock_of(time))
+    add_date_and_time(text, date_of_time(time), seconds_after_midnight(time))
 }
 
-// Appends a date and a time of day, which is given in seconds after midnight.
-fn add_calendar(text: &mut String, date: Date, clock: u32) -> Result<(), AllocError>
+// Appends a date, and a time of day that is given in seconds after midnight. The only error is out of memory.
+fn add_date_and_time(text: &mut String, date: Date, clock: u32) -> Result<(), AllocError>
     requires { clock < 86_400 }
     ensures { OnOk result (string_bytes text.new
         ≡ string_bytes text.old
         ++ (date_text date.year date.month date.day ++ clock_text clock)) }
 {
     add_date(text, date)?;
-    add_clock(text, clock)
+    add_time_of_day(text, clock)
 }
 
-// Returns the date, in the proleptic Gregorian calendar, of the day that a time in seconds lies in.
-fn date_of(time: i64) -> Date
+// Returns the date, in the proleptic Gregorian calendar, of the day that a time in seconds since J2000 in TDB lies in.
+// J2000 is a noon, so half a day is added to count from a midnight.
+fn date_of_time(time: i64) -> Date
     requires { IsTime time }
     ensures { epoch_day result ≡ day_number time }
 {
@@ -97,8 +103,9 @@ fn date_of(time: i64) -> Date
     Date::from_unix_epoch_day(day).unwrap()
 }
 
-// Returns the time of day in seconds after midnight: 0 to 86,399.
-fn clock_of(time: i64) -> u32
+// Returns the seconds from the last midnight to a time in seconds since J2000 in TDB: 0 to 86,399. J2000 is a noon, so
+// half a day is added to count from a midnight.
+fn seconds_after_midnight(time: i64) -> u32
     requires { IsTime time }
     ensures value { result ≡ clock time }
     ensures bound { result < 86_400 }
@@ -106,27 +113,30 @@ fn clock_of(time: i64) -> u32
     (time + HALF_DAY).rem_euclid(DAY) as u32
 }
 
-// Appends a date as `YYYY-MM-DD`. A year below 0 has a sign and six digits.
+// Appends a date as `YYYY-MM-DD` to a text. A year below 0 has a minus sign and six digits. The only error is out of
+// memory.
 fn add_date(text: &mut String, date: Date) -> Result<(), AllocError>
     ensures { OnOk result (string_bytes text.new
         ≡ string_bytes text.old ++ date_text date.year date.month date.day) }
 {
     add_year(text, date.year)?;
-    add_field(text, "-", date.month as u32)?;
-    add_field(text, "-", date.day as u32)
+    add_two_digit_field(text, "-", date.month as u32)?;
+    add_two_digit_field(text, "-", date.day as u32)
 }
 
-// Appends a time of day, given in seconds after midnight, as `THH:MM:SS`.
-fn add_clock(text: &mut String, clock: u32) -> Result<(), AllocError>
+// Appends a time of day as `THH:MM:SS` to a text. It is given in seconds after midnight. The only error is out of
+// memory.
+fn add_time_of_day(text: &mut String, clock: u32) -> Result<(), AllocError>
     requires { clock < 86_400 }
     ensures { OnOk result (string_bytes text.new ≡ string_bytes text.old ++ clock_text clock) }
 {
-    add_field(text, "T", clock / 3_600)?;
-    add_field(text, ":", clock / 60 % 60)?;
-    add_field(text, ":", clock % 60)
+    add_two_digit_field(text, "T", clock / 3_600)?;
+    add_two_digit_field(text, ":", clock / 60 % 60)?;
+    add_two_digit_field(text, ":", clock % 60)
 }
 
-// Appends a year in four digits, or below 0 in a minus sign and six digits.
+// Appends a year to a text, in four digits, or as a minus sign and six digits if it is below 0. The only error is out
+// of memory.
 fn add_year(text: &mut String, year: i16) -> Result<(), AllocError>
     requires { IsYear year }
     ensures { OnOk result (string_bytes text.new ≡ string_bytes text.old ++ year_text year) }
@@ -135,7 +145,8 @@ fn add_year(text: &mut String, year: i16) -> Result<(), AllocError>
     add_four_digits(text, year.unsigned_abs() as u32)
 }
 
-// Returns what stands before the four digits of a year: nothing, or below 0 a minus sign and two zeros.
+// Returns the text before the last four digits of a printed year: none, or a minus sign and two zeros if the year is
+// below 0.
 fn year_prefix(year: i16) -> &'static str
     requires { IsYear year }
     ensures { result.now ++ digits 4 (unsigned_abs year) ≡ year_text year }
@@ -143,7 +154,7 @@ fn year_prefix(year: i16) -> &'static str
     if year < 0 { "-00" } else { "" }
 }
 
-// Appends a number below 10,000 in four digits.
+// Appends a number below 10,000 in four digits to a text. The only error is out of memory.
 fn add_four_digits(text: &mut String, n: u32) -> Result<(), AllocError>
     requires { n < 10_000 }
     ensures { OnOk result (string_bytes text.new ≡ string_bytes text.old ++ digits 4 n) }
@@ -152,8 +163,8 @@ fn add_four_digits(text: &mut String, n: u32) -> Result<(), AllocError>
     add_two_digits(text, n % 100)
 }
 
-// Appends a mark and a number below 100 in two digits.
-fn add_field(text: &mut String, mark: &str, n: u32) -> Result<(), AllocError>
+// Appends a separator, such as `:`, and a number below 100 in two digits to a text. The only error is out of memory.
+fn add_two_digit_field(text: &mut String, mark: &str, n: u32) -> Result<(), AllocError>
     requires { n < 100 }
     ensures { OnOk result (string_bytes text.new
         ≡ string_bytes text.old ++ (mark.now ++ digits 2 n)) }
@@ -162,7 +173,7 @@ fn add_field(text: &mut String, mark: &str, n: u32) -> Result<(), AllocError>
     add_two_digits(text, n)
 }
 
-// Appends a number below 100 in two digits.
+// Appends a number below 100 in two digits to a text. The only error is out of memory.
 fn add_two_digits(text: &mut String, n: u32) -> Result<(), AllocError>
     requires { n < 100 }
     ensures { OnOk result (string_bytes text.new ≡ string_bytes text.old ++ digits 2 n) }
@@ -172,17 +183,7 @@ fn add_two_digits(text: &mut String, n: u32) -> Result<(), AllocError>
     text.push_str(buffer.format(n))
 }
 
-// Appends a number below 1,000 in three digits.
-fn add_three_digits(text: &mut String, n: u32) -> Result<(), AllocError>
-    requires { n < 1_000 }
-    ensures { OnOk result (string_bytes text.new ≡ string_bytes text.old ++ digits 3 n) }
-{
-    let mut buffer = itoa::Buffer::new();
-    text.push_str(leading_zeros(n))?;
-    text.push_str(buffer.format(n))
-}
-
-// Returns the zeros that bring a number below 1,000 to three digits.
+// Returns the zeros that stand before the decimal digits of a number below 1,000 to make them three.
 fn leading_zeros(n: u32) -> &'static str
     requires { n < 1_000 }
     ensures { result.now ++ decimal n ≡ digits 3 n }
@@ -196,7 +197,7 @@ fn leading_zeros(n: u32) -> &'static str
     }
 }
 
-// Returns the zero that brings a number below 10 to two digits, or nothing from 10 on.
+// Returns the zero that stands before the digit of a number below 10 to make two digits, or no text for 10 to 99.
 fn leading_zero(n: u32) -> &'static str
     requires { n < 100 }
     ensures { result.now ++ decimal n ≡ digits 2 n }

@@ -12,9 +12,9 @@ use spec_requests::{FindAsk, dir_name};
 use spec_trees::Window;
 use std::alloc::{AllocError, Global};
 
-/// Returns the report of the windows that a search found from `from` to `to`: the request, a line for each window,
-/// and the counts. Times come in ticks since J2000 in TDB and are printed as calendar texts. The only error is out of
-/// memory.
+/// Returns the report of the windows that a search found over a span: the request, a line for each window, and the
+/// counts of windows. Times come in ticks since J2000 in TDB, and are printed as calendar texts. The only error is out
+/// of memory.
 pub fn report(
     alloc: Global,
     find: &FindAsk,
@@ -33,7 +33,8 @@ pub fn report(
     Ok(text.into_bytes())
 }
 
-// Appends the report of the windows that a search found. It fails only where memory is out.
+// Appends the report of the windows that a search found over a span: the request, a line for each window, and the
+// counts of windows. The only error is out of memory.
 fn add_report(
     text: &mut String,
     find: &FindAsk,
@@ -54,8 +55,8 @@ fn add_report(
     add_end_line(text, windows)
 }
 
-/// Returns the two lines about a search in a generated text: its blocks, seed and bytes, and the counts of windows.
-/// The only error is out of memory.
+/// Returns the two lines that `gen` prints: the blocks, the seed and the bytes of the generated text, and the counts of
+/// the windows that a search found in it. The only error is out of memory.
 pub fn generation(
     alloc: Global,
     blocks: u32,
@@ -71,8 +72,8 @@ pub fn generation(
     Ok(text.into_bytes())
 }
 
-/// Returns the report of a certificate that breaks no rule: the report of its windows, and a line with the number of
-/// its leaves. The only error is out of memory.
+/// Returns the report of a certificate that was accepted: that of its windows over a span, and a line with the number
+/// of its leaves. Times come in ticks since J2000 in TDB. The only error is out of memory.
 pub fn verification(
     alloc: Global,
     find: &FindAsk,
@@ -94,8 +95,8 @@ pub fn verification(
     Ok(text.into_bytes())
 }
 
-/// Returns the line of a request that is searched from `from` to `to`, without its line feed. Times come in ticks
-/// since J2000 in TDB and are printed as calendar texts. The only error is out of memory.
+/// Returns the line of a request without its line feed. It ends with the span, the calendar texts of `from` and `to`,
+/// which come in ticks since J2000 in TDB. The only error is out of memory.
 pub fn request_line(alloc: Global, find: &FindAsk, from: i64, to: i64) -> Result<Vec<u8>, Memory>
     requires tick { IsTick find.now.tick }
     requires from { IsTimeIn find.now.tick from }
@@ -107,7 +108,8 @@ pub fn request_line(alloc: Global, find: &FindAsk, from: i64, to: i64) -> Result
     Ok(text.into_bytes())
 }
 
-// Appends the line of a request without its line feed. It fails only where memory is out.
+// Appends the line of a request without its line feed, with its span as calendar texts. Times come in ticks since J2000
+// in TDB. The only error is out of memory.
 fn add_request_line(text: &mut String, find: &FindAsk, from: i64, to: i64) -> Result<(), AllocError>
     requires tick { IsTick find.now.tick }
     requires from { IsTimeIn find.now.tick from }
@@ -126,7 +128,8 @@ fn add_request_line(text: &mut String, find: &FindAsk, from: i64, to: i64) -> Re
     )
 }
 
-// Appends the line about a generated text: its layout, blocks, seed and bytes. It fails only where memory is out.
+// Appends the line about a generated text: its layout, number of blocks, seed and number of bytes. The only error is
+// out of memory.
 fn add_generation_line(
     text: &mut String,
     blocks: u32,

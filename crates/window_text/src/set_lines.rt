@@ -1,5 +1,5 @@
-// The text of the times at which a function has a relation to its references. Calls that append fail only where
-// memory is out.
+// The text of the times at which a function has a relation to its references. Calls that append fail only if
+// memory runs out.
 ghost use Rattle.std.specs.Prelude.{◌≡◌, ◌++◌, All, IfOk, OnOk, string_bytes};
 ghost use Rattle.spec_ephemeris.specs.Ticks.{IsTick};
 ghost use Rattle.spec_output.specs.Report.{AreTimesIn, set_end_line, set_lines, set_report, span_lines};
@@ -8,13 +8,13 @@ ghost use Rattle.spec_times.specs.Ticks.{IsTimeIn};
 use crate::Memory;
 use crate::pieces::{add_last_number, add_line_feed, add_number};
 use crate::query_lines::add_query_line;
-use crate::window_lines::add_line;
+use crate::window_lines::add_span_line;
 use spec_requests::{FindAsk, Relation, relation_name};
 use std::alloc::{AllocError, Global};
 
-/// Returns the report of the times from `from` to `to` at which a relation holds: the request, a line for each span
-/// of sure times, one for each span of possible times, and how many spans there are of both sorts. Times come in
-/// ticks since J2000 in TDB and are printed as calendar texts. The only error is out of memory.
+/// Returns the report of the times from `from` to `to` at which a relation holds: the request, a line for each span in
+/// which it surely holds, one for each in which it perhaps holds, and the counts of both. Times come in ticks since
+/// J2000 in TDB, and are printed as calendar texts. The only error is out of memory.
 pub fn set_report(
     alloc: Global,
     find: &FindAsk,
@@ -47,7 +47,8 @@ pub fn set_report(
     Ok(text.into_bytes())
 }
 
-// Appends the lines of the sure spans, those of the possible spans, and the line with both counts.
+// Appends a line for each span in which a relation surely holds, one for each in which it perhaps holds, and a line
+// with the counts of both. The only error is out of memory.
 fn add_set_lines(
     text: &mut String,
     tick: u32,
@@ -65,7 +66,8 @@ fn add_set_lines(
     add_set_end_line(text, surely, perhaps)
 }
 
-// Appends the last line of a report of sets: how many sure spans there are, and how many possible ones.
+// Appends the last line of the report of a set: the number of spans in which its relation surely holds, and of those in
+// which it perhaps holds. The only error is out of memory.
 fn add_set_end_line(
     text: &mut String,
     surely: &[(i64, i64)],
@@ -78,7 +80,8 @@ fn add_set_end_line(
     add_last_number(text, " possible ", perhaps.len() as u64, "\n")
 }
 
-// Appends a line for each span: a word, and the first and last time of the span as calendar texts.
+// Appends a line for each span, in their order: a word, and the first and the last time of the span as calendar texts.
+// Times come in ticks since J2000 in TDB. The only error is out of memory.
 fn add_span_lines(
     text: &mut String,
     word: &str,
@@ -91,7 +94,7 @@ fn add_span_lines(
         ≡ string_bytes text.old ++ span_lines word.now tick spans.now) }
 {
     for span in spans {
-        add_line(text, tick, word, span.0, span.1, "\n")?;
+        add_span_line(text, tick, word, span.0, span.1, "\n")?;
     }
     Ok(())
 }

@@ -1,4 +1,4 @@
-// The text about an ephemeris, which `check` prints. Calls that append fail only where memory is out.
+// The text about an ephemeris, which `check` prints. Calls that append fail only if memory runs out.
 ghost use Rattle.std.specs.Prelude.{◌≡◌, ◌<◌, ◌++◌, None, IfOk, OnOk, string_bytes};
 ghost use Rattle.spec_ephemeris.specs.Ephemeris.{end_of};
 ghost use Rattle.spec_output.specs.Summary.{column_line, column_lines, column_name, ephemeris_line, line_if_present, name_of_column, sizes_of, span_of, summary};
@@ -6,7 +6,7 @@ ghost use Rattle.spec_times.specs.Calendar.{time_text};
 ghost use Rattle.spec_times.specs.TimeWords.{IsTime};
 
 use crate::Memory;
-use crate::pieces::{add_last_number, add_number, add_pair, add_signed_number};
+use crate::pieces::{add_last_number, add_name_and_value, add_number};
 use crate::printing::add_time;
 use eph_model::Ephemeris;
 use spec_ephemeris::{Column, MAX_COLUMNS, NUTATIONS, READ_COLUMNS};
@@ -14,9 +14,8 @@ use spec_output::COLUMN_BODIES;
 use spec_requests::body_name;
 use std::alloc::{AllocError, Global};
 
-/// Returns the summary of an ephemeris that counts seconds: its start and end as calendar texts, the seconds of a
-/// block, the number of blocks and NCOEFF, and a line for each column that is present. The only error is out of
-/// memory.
+/// Returns the summary of an ephemeris that counts seconds: a line with its start and end as calendar texts and its
+/// sizes, and a line for each column that is present. The only error is out of memory.
 pub fn summary(alloc: Global, ephemeris: &Ephemeris) -> Result<Vec<u8>, Memory>
     requires start { IsTime ephemeris.now.start }
     requires end { IsTime (end_of ephemeris.now) }
@@ -28,7 +27,8 @@ pub fn summary(alloc: Global, ephemeris: &Ephemeris) -> Result<Vec<u8>, Memory>
     Ok(text.into_bytes())
 }
 
-// Appends the first line of the summary: the span of the ephemeris, and its sizes.
+// Appends the first line of a summary: start and end of the ephemeris as calendar texts, and its sizes. The only error
+// is out of memory.
 fn add_ephemeris_line(text: &mut String, ephemeris: &Ephemeris) -> Result<(), AllocError>
     requires start { IsTime ephemeris.now.start }
     requires end { IsTime (end_of ephemeris.now) }
@@ -39,7 +39,8 @@ fn add_ephemeris_line(text: &mut String, ephemeris: &Ephemeris) -> Result<(), Al
     add_sizes(text, ephemeris)
 }
 
-// Appends the start and the end of an ephemeris as calendar texts.
+// Appends the start and the end of an ephemeris that counts seconds, as calendar texts. The only error is out of
+// memory.
 fn add_span(text: &mut String, ephemeris: &Ephemeris) -> Result<(), AllocError>
     requires start { IsTime ephemeris.now.start }
     requires end { IsTime (end_of ephemeris.now) }
@@ -49,7 +50,7 @@ fn add_span(text: &mut String, ephemeris: &Ephemeris) -> Result<(), AllocError>
     add_named_time(text, " end ", ephemeris.end())
 }
 
-// Appends a name and a time in seconds as a calendar text.
+// Appends a name, and the calendar text of a time in seconds since J2000 in TDB. The only error is out of memory.
 fn add_named_time(text: &mut String, name: &str, time: i64) -> Result<(), AllocError>
     requires { IsTime time }
     ensures { OnOk result (string_bytes text.new
@@ -59,18 +60,20 @@ fn add_named_time(text: &mut String, name: &str, time: i64) -> Result<(), AllocE
     add_time(text, time)
 }
 
-// Appends the seconds of a block, the number of blocks and NCOEFF, and ends the line.
+// Appends the sizes of an ephemeris, which end the line: the seconds of a block, the number of blocks, and the number
+// of coefficients in a block (NCOEFF). The only error is out of memory.
 fn add_sizes(text: &mut String, ephemeris: &Ephemeris) -> Result<(), AllocError>
     ensures { OnOk result
         (string_bytes text.new ≡ string_bytes text.old ++ sizes_of ephemeris.now) }
 {
     let header = ephemeris.header();
-    add_signed_number(text, " block ", header.block_seconds)?;
+    add_number(text, " block ", header.block_seconds)?;
     add_number(text, " blocks ", ephemeris.blocks() as u64)?;
     add_last_number(text, " ncoeff ", header.ncoeff as u64, "\n")
 }
 
-// Appends a line for each column that is present, in the order of their numbers.
+// Appends a line for each column of an ephemeris that is present, in the order of their numbers, which begin with 1.
+// The only error is out of memory.
 fn add_columns(text: &mut String, columns: &[Column]) -> Result<(), AllocError>
     ensures { OnOk result (string_bytes text.new
         ≡ string_bytes text.old ++ column_lines 1 columns.now) }
@@ -81,7 +84,8 @@ fn add_columns(text: &mut String, columns: &[Column]) -> Result<(), AllocError>
     Ok(())
 }
 
-// Appends the line of a column, or nothing where the column has no coefficient or no granule.
+// Appends the line of a column, or nothing if the column has no coefficients or no granules and so is absent. The only
+// error is out of memory.
 fn add_present_column(text: &mut String, number: usize, column: Column) -> Result<(), AllocError>
     requires { 0 < number }
     ensures { OnOk result (string_bytes text.new
@@ -94,30 +98,32 @@ fn add_present_column(text: &mut String, number: usize, column: Column) -> Resul
     }
 }
 
-// Appends the line of a column: its name, its coefficients for an axis, and its granules in a block.
+// Appends the line of a column: its name, its number of coefficients for an axis, and its number of granules in a
+// block. The only error is out of memory.
 fn add_column(text: &mut String, number: usize, column: Column) -> Result<(), AllocError>
     requires { 0 < number }
     ensures { OnOk result (string_bytes text.new
         ≡ string_bytes text.old ++ column_line number column) }
 {
-    add_pair(text, "COLUMN ", column_name(number))?;
+    add_name_and_value(text, "COLUMN ", column_name(number))?;
     add_number(text, " coefficients ", column.coefs as u64)?;
     add_last_number(text, " granules ", column.granules as u64, "\n")
 }
 
-// Returns the name of the column with this number, counted from 1: that of its body, or of what else it holds.
+// Returns the name of the column with this number, counted from 1: that of its body, or of the angles that it holds.
 fn column_name(number: usize) -> &'static str
     requires { 0 < number }
     ensures { result.now ≡ column_name number }
 {
     match COLUMN_BODIES.get(number - 1) {
         Some(body) => body_name(*body),
-        None => name_without_body(number),
+        None => name_of_other_column(number),
     }
 }
 
-// Returns the name of a column that holds no body: nutations, librations, or its number.
-fn name_without_body(number: usize) -> &'static str
+// Returns the name of a column that is not a body's: `nutations` for 12, `librations` for 13, `column15` for 15, and
+// `column14` for any other number.
+fn name_of_other_column(number: usize) -> &'static str
     ensures { result.now ≡ name_of_column None number }
 {
     if number == NUTATIONS {

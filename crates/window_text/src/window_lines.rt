@@ -1,4 +1,4 @@
-// The lines of windows, and of spans of calendar times. Calls that append fail only where memory is out.
+// The lines of windows, and of spans of calendar times. Calls that append fail only if memory runs out.
 ghost use Rattle.std.specs.Prelude.{◌≡◌, ◌++◌, All, OnOk, string_bytes};
 ghost use Rattle.spec_ephemeris.specs.Ticks.{IsTick};
 ghost use Rattle.spec_output.specs.Report.{HasTimes, end_line, line_end, line_of, line_word, span_text, window_lines};
@@ -6,11 +6,12 @@ ghost use Rattle.spec_times.specs.Ticks.{IsTimeIn};
 
 use crate::counting::{certain_count, undecided_count};
 use crate::pieces::{add_last_number, add_number};
-use crate::printing::add_tick;
+use crate::printing::add_time_in_ticks;
 use spec_trees::{Holds, Turn, Window};
 use std::alloc::AllocError;
 
-/// Appends a line for each window, in their order. Times come in ticks since J2000 in TDB.
+/// Appends a line for each window, in their order. Times come in ticks since J2000 in TDB, and are printed as calendar
+/// texts. The only error is out of memory.
 pub(crate) fn add_windows(
     text: &mut String,
     tick: u32,
@@ -27,7 +28,8 @@ pub(crate) fn add_windows(
     Ok(())
 }
 
-// Appends the line of a window: its sort, its first and last time, and the direction of a certain event.
+// Appends the line of a window: its sort, its first and last time as calendar texts, and the direction of a certain
+// event. Times come in ticks since J2000 in TDB. The only error is out of memory.
 fn add_window(text: &mut String, tick: u32, window: Window) -> Result<(), AllocError>
     requires tick { IsTick tick }
     requires times { HasTimes tick window }
@@ -35,7 +37,7 @@ fn add_window(text: &mut String, tick: u32, window: Window) -> Result<(), AllocE
         ≡ string_bytes text.old ++ line_of tick window.first window.last window.holds) }
 {
     let holds = window.holds;
-    add_line(
+    add_span_line(
         text,
         tick,
         line_word(holds),
@@ -45,7 +47,7 @@ fn add_window(text: &mut String, tick: u32, window: Window) -> Result<(), AllocE
     )
 }
 
-/// Returns the word that starts a window's line: `C ` where the window holds one event, `U ` where it is undecided.
+/// Returns the word that starts a window's line: `C ` if the window holds exactly one event, `U ` if it is undecided.
 pub(crate) fn line_word(holds: Holds) -> &'static str
     ensures { result.now ≡ line_word holds }
 {
@@ -55,7 +57,7 @@ pub(crate) fn line_word(holds: Holds) -> &'static str
     }
 }
 
-/// Returns what ends a window's line: the direction of a certain event, and the line feed.
+/// Returns the text that ends a window's line: the direction of a certain event, if it holds one, and the line feed.
 pub(crate) fn line_end(holds: Holds) -> &'static str
     ensures { result.now ≡ line_end holds }
 {
@@ -66,8 +68,9 @@ pub(crate) fn line_end(holds: Holds) -> &'static str
     }
 }
 
-/// Appends a word, two times in ticks as calendar texts, and the text that ends the line.
-pub(crate) fn add_line(
+/// Appends a line: a word, the calendar texts of two times in ticks since J2000 in TDB, and the text `end`, which ends
+/// the line. The only error is out of memory.
+pub(crate) fn add_span_line(
     text: &mut String,
     tick: u32,
     word: &str,
@@ -85,7 +88,8 @@ pub(crate) fn add_line(
     text.push_str(end)
 }
 
-/// Appends a word, and two times in ticks as calendar texts.
+/// Appends a word and then the calendar texts of two times in ticks since J2000 in TDB, with a blank between them. The
+/// only error is out of memory.
 pub(crate) fn add_span(
     text: &mut String,
     word: &str,
@@ -100,12 +104,12 @@ pub(crate) fn add_span(
         ≡ string_bytes text.old ++ (word.now ++ span_text tick first last)) }
 {
     text.push_str(word)?;
-    add_tick(text, tick, first)?;
+    add_time_in_ticks(text, tick, first)?;
     text.push_str(" ")?;
-    add_tick(text, tick, last)
+    add_time_in_ticks(text, tick, last)
 }
 
-/// Appends the last line of a report: how many windows are certain, and how many undecided.
+/// Appends the last line of a report: the numbers of certain and of undecided windows. The only error is out of memory.
 pub(crate) fn add_end_line(text: &mut String, windows: &[Window]) -> Result<(), AllocError>
     ensures { OnOk result (string_bytes text.new ≡ string_bytes text.old ++ end_line windows.now) }
 {

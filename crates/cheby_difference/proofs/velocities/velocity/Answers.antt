@@ -11,7 +11,7 @@ returns c =
     let a = c.ranges.a in
     let b = c.ranges.b in
     let s = series_of c.args.g.now c.args.axis in
-    let p = c.span_parts-terms.ensures in
-    let x = simp to_z-of_z at c.span_parts-terms.ensures.arguments in
+    let p = c.span_inputs-terms.ensures in
+    let x = simp to_z-of_z at c.span_inputs-terms.ensures.arguments in
     let e : c.velocity_over_row.result ≡ velocity_interval s c.args.a c.args.b = c.velocity_over_row.ensures ∙ λ i. velocity_over (p.terms i) (x i) (p.divider i) in
     record { equals = e; holds = λ t from to. rw e (Holds-velocity s c.args.a c.args.b (IsSeries-within c.requires) (IsSpan-within c.requires) t from to) }

@@ -12,8 +12,8 @@ equals : (c : After-velocity_step_over_row) → c.velocity_step_over_row.result 
 equals c =
     let a = c.ranges.a in
     let b = c.ranges.b in
-    let p = c.span_parts-terms.ensures in
-    let x = simp to_z-of_z at c.span_parts-terms.ensures.arguments in
+    let p = c.span_inputs-terms.ensures in
+    let x = simp to_z-of_z at c.span_inputs-terms.ensures.arguments in
     let w : lt_z c.args.a c.args.b ≡ true = simp to_z-of_z at c.if-a-b.true in
     rw w (c.velocity_step_over_row.ensures ∙ λ i. velocity_step_over (p.terms i) (x i) (p.divider i))
 

@@ -8,7 +8,7 @@ use Rattle.cheby_laws.proofs.arguments.argument_of.Goals as goal
 pub returns : goal.returns
 returns c =
     let a = c.ranges.u in
-    let e : c.one_argument.result ≡ argument_of c.args.u c.args.u (pos c.args.divider.now) = simp to_z-of_z at c.one_argument.ensures in
+    let e : c.argument_from_one_division.result ≡ argument_of c.args.u c.args.u (pos c.args.divider.now) = simp to_z-of_z at c.argument_from_one_division.ensures in
     let positive : pos 0 <ℤ pos c.args.divider.now = omega (arith, lin) in
     let same : c.args.u ≤ℤ c.args.u = omega (arith, lin) in
     record {

@@ -32,15 +32,15 @@ module _ (c : After-product_ends-least) where
       let greatest : unsigned_abs c.product_ends-least.result.1 ≤ 2 ^ 120 = rw products.1 (greatest4_bound c.args.x.lo c.args.x.hi c.args.e.lo c.args.e.hi a b p q) in
       (least, greatest)
 
-pub quotient_down-requires : goal.quotient_down-requires
-quotient_down-requires c =
+pub floor_in_row_unit-requires : goal.floor_in_row_unit-requires
+floor_in_row_unit-requires c =
     let r : SFits w128 c.product_ends-least.result.0 = search rules in
-    rw (to_z-of_z w128 c.product_ends-least.result.0 r) ((sizes (goal.at.quotient_down-requires c).After-product_ends-least).0)
+    rw (to_z-of_z w128 c.product_ends-least.result.0 r) ((sizes (goal.at.floor_in_row_unit-requires c).After-product_ends-least).0)
 
-pub quotient_up-requires : goal.quotient_up-requires
-quotient_up-requires c =
+pub ceil_in_row_unit-requires : goal.ceil_in_row_unit-requires
+ceil_in_row_unit-requires c =
     let r : SFits w128 c.product_ends-least.result.1 = search rules in
-    rw (to_z-of_z w128 c.product_ends-least.result.1 r) ((sizes (goal.at.quotient_up-requires c).After-product_ends-least).1)
+    rw (to_z-of_z w128 c.product_ends-least.result.1 r) ((sizes (goal.at.ceil_in_row_unit-requires c).After-product_ends-least).1)
 
 pub returns : goal.returns
 unfolding next
@@ -52,16 +52,16 @@ returns c =
     let s = products (goal.at.returns c).After-product_ends-least in
     let r0 : SFits w128 c.product_ends-least.result.0 = search rules in
     let r1 : SFits w128 c.product_ends-least.result.1 = search rules in
-    let qd : SFits w64 c.quotient_down.result = record { sfits = c.quotient_down.type_inv } in
-    let qu : SFits w64 c.quotient_up.result = record { sfits = c.quotient_up.type_inv } in
-    let td : SFits w64 c.total.result = record { sfits = c.total.type_inv } in
-    let tu : SFits w64 c.total-2.result = record { sfits = c.total-2.type_inv } in
-    let d : c.quotient_down.result ≡ floor_div c.product_ends-least.result.0 (2 ^ 59) = simp to_z-of_z at c.quotient_down.ensures.equals in
-    let u : c.quotient_up.result ≡ ceil_div c.product_ends-least.result.1 (2 ^ 59) = simp to_z-of_z at c.quotient_up.ensures.equals in
-    let dt : c.total.result ≡ c.quotient_down.result +ℤ c.args.extra.lo -ℤ c.args.before.hi = simp to_z-of_z at c.total.ensures in
-    let ut : c.total-2.result ≡ c.quotient_up.result +ℤ c.args.extra.hi -ℤ c.args.before.lo = simp to_z-of_z at c.total-2.ensures in
-    let l : c.at_least.result ≡ int_max c.total.result (neg_ℤ (pos c.args.limit)) = simp to_z-of_z at c.at_least.ensures in
-    let h : c.at_most.result ≡ int_min c.total-2.result (pos c.args.limit) = simp to_z-of_z at c.at_most.ensures in
-    let lr : to_z w64 (of_z w64 c.at_least.result) ≡ low_end c.args.limit c.args.x c.args.e c.args.extra c.args.before = to_z-of_z w64 c.at_least.result (record { sfits = c.at_least.type_inv }) ∙ (l ∙ rw (dt, d, s.0)) in
-    let hr : to_z w64 (of_z w64 c.at_most.result) ≡ high_end c.args.limit c.args.x c.args.e c.args.extra c.args.before = to_z-of_z w64 c.at_most.result (record { sfits = c.at_most.type_inv }) ∙ (h ∙ rw (ut, u, s.1)) in
+    let qd : SFits w64 c.floor_in_row_unit.result = record { sfits = c.floor_in_row_unit.type_inv } in
+    let qu : SFits w64 c.ceil_in_row_unit.result = record { sfits = c.ceil_in_row_unit.type_inv } in
+    let td : SFits w64 c.next_end.result = record { sfits = c.next_end.type_inv } in
+    let tu : SFits w64 c.next_end-2.result = record { sfits = c.next_end-2.type_inv } in
+    let d : c.floor_in_row_unit.result ≡ floor_div c.product_ends-least.result.0 (2 ^ 59) = simp to_z-of_z at c.floor_in_row_unit.ensures.equals in
+    let u : c.ceil_in_row_unit.result ≡ ceil_div c.product_ends-least.result.1 (2 ^ 59) = simp to_z-of_z at c.ceil_in_row_unit.ensures.equals in
+    let dt : c.next_end.result ≡ c.floor_in_row_unit.result +ℤ c.args.extra.lo -ℤ c.args.before.hi = simp to_z-of_z at c.next_end.ensures in
+    let ut : c.next_end-2.result ≡ c.ceil_in_row_unit.result +ℤ c.args.extra.hi -ℤ c.args.before.lo = simp to_z-of_z at c.next_end-2.ensures in
+    let l : c.cut_low_end.result ≡ int_max c.next_end.result (neg_ℤ (pos c.args.limit)) = simp to_z-of_z at c.cut_low_end.ensures in
+    let h : c.cut_high_end.result ≡ int_min c.next_end-2.result (pos c.args.limit) = simp to_z-of_z at c.cut_high_end.ensures in
+    let lr : to_z w64 (of_z w64 c.cut_low_end.result) ≡ low_end c.args.limit c.args.x c.args.e c.args.extra c.args.before = to_z-of_z w64 c.cut_low_end.result (record { sfits = c.cut_low_end.type_inv }) ∙ (l ∙ rw (dt, d, s.0)) in
+    let hr : to_z w64 (of_z w64 c.cut_high_end.result) ≡ high_end c.args.limit c.args.x c.args.e c.args.extra c.args.before = to_z-of_z w64 c.cut_high_end.result (record { sfits = c.cut_high_end.type_inv }) ∙ (h ∙ rw (ut, u, s.1)) in
     rw (lr, hr)

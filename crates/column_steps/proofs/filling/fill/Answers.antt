@@ -13,7 +13,7 @@ loop-place-preserved g c =
     record {
       room = length-set c.loop-place.slots c.loop-place.place _ ∙ room;
       order = omega (arith, below);
-      values = value_more (g.A.Arithmetic.is_value c.args.arithmetic.now) (terms_of c.args.steps.now.steps) c.loop-place.place c.loop-place.slots c.value_of.result (omega (arith, below, few, room)) c.loop-place.invariant.values c.value_of.ensures;
+      values = value_more (g.A.Arithmetic.is_value c.args.arithmetic.now) (terms_of c.args.steps.now.steps) c.loop-place.place c.loop-place.slots c.value_from_slots.result (omega (arith, below, few, room)) c.loop-place.invariant.values c.value_from_slots.ensures;
     }
 
 pub returns-clause-values : goal.returns-clause-values

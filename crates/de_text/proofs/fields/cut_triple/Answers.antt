@@ -8,8 +8,8 @@ pub returns-clause-lines : goal.returns-clause-lines
 returns-clause-lines c =
     let text = c.args.text.now in
     let end = c.in_ok-end.end in
-    let line = c.without_return-bytes.result.now in
-    cut_lines text line end c.without_return-bytes.ensures.prefix c.without_return-bytes.ensures.line c.in_ok-end.ensures.within c.in_ok-end.ensures.at
+    let line = c.without_carriage_return-bytes.result.now in
+    cut_lines text line end c.without_carriage_return-bytes.ensures.prefix c.without_carriage_return-bytes.ensures.line c.in_ok-end.ensures.within c.in_ok-end.ensures.at
     c.in_ok-end.ensures.between c.in_ok-triple.ensures.inner c.in_ok-triple.ensures.long
     ∙ ap (λ (l : List ℕ). line ∷ lines l) (sym (take_rest text (end + 1)))
 
@@ -18,4 +18,4 @@ returns-clause-some c = some_triple _ _ c.in_ok-triple.ensures.triple
 
 pub returns-clause-short : goal.returns-clause-short
 returns-clause-short c =
-    cut_short c.args.text.now c.without_return-bytes.result.now c.in_ok-end.end c.without_return-bytes.ensures.prefix c.in_ok-end.ensures.near
+    cut_short c.args.text.now c.without_carriage_return-bytes.result.now c.in_ok-end.end c.without_carriage_return-bytes.ensures.prefix c.in_ok-end.ensures.near

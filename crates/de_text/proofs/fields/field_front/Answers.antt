@@ -9,15 +9,15 @@ front line word long fit is form = front_of line (word / 256 % 2) (omega (arith,
 
 pub returns-clause-before : goal.returns-clause-before
 returns-clause-before c =
-    front_before c.args.line.now (c.front_word-word.result / 256 % 2) (omega arith)
-    (front c.args.line.now c.front_word-word.result c.requires c.type_inv.line c.front_word-word.ensures c.if-word-odd.false)
+    front_before c.args.line.now (c.four_bytes_as_number-word.result / 256 % 2) (omega arith)
+    (front c.args.line.now c.four_bytes_as_number-word.result c.requires c.type_inv.line c.four_bytes_as_number-word.ensures c.if-word-odd.false)
 
 pub returns-clause-negative : goal.returns-clause-negative
 returns-clause-negative c =
-    front_negative c.args.line.now (c.front_word-word.result / 256 % 2) (omega (arith, c.requires)) (omega arith)
-    (front c.args.line.now c.front_word-word.result c.requires c.type_inv.line c.front_word-word.ensures c.if-word-odd.false)
+    front_negative c.args.line.now (c.four_bytes_as_number-word.result / 256 % 2) (omega (arith, c.requires)) (omega arith)
+    (front c.args.line.now c.four_bytes_as_number-word.result c.requires c.type_inv.line c.four_bytes_as_number-word.ensures c.if-word-odd.false)
 
 pub returns-clause-digits : goal.returns-clause-digits
 returns-clause-digits c =
-    front_digits c.args.line.now (c.front_word-word.result / 256 % 2) (omega (arith, c.requires)) (omega arith)
-    (front c.args.line.now c.front_word-word.result c.requires c.type_inv.line c.front_word-word.ensures c.if-word-odd.false)
+    front_digits c.args.line.now (c.four_bytes_as_number-word.result / 256 % 2) (omega (arith, c.requires)) (omega arith)
+    (front c.args.line.now c.four_bytes_as_number-word.result c.requires c.type_inv.line c.four_bytes_as_number-word.ensures c.if-word-odd.false)

@@ -11,10 +11,10 @@ returns-in-Some-clause-lines c =
     let end = c.in-Some.end in
     let before : (k : ℕ) → k < end → is_line_feed (get_or text k 0) ≡ false = λ k h. fails _ (c.in-Some.ensures.0.before k (omega arith) h) in
     line_at text end c.in-Some.ensures.0.high before c.in-Some.ensures.1
-    ∙ (λ i. sym c.without_return.ensures.line i ∷ lines (sym (take_rest text (end + 1)) i))
+    ∙ (λ i. sym c.without_carriage_return.ensures.line i ∷ lines (sym (take_rest text (end + 1)) i))
 
 pub returns-in-None-clause-lines : goal.returns-in-None-clause-lines
 returns-in-None-clause-lines c =
     let text = c.args.text.now in
     last_line text (λ k d h. rw (get_or_default text k d 0 h) (fails _ (c.in-None.ensures k (omega arith) h))) c.requires
-    ∙ ap (λ (line : List ℕ). line ∷ []) (sym c.without_return-in-None.ensures.line)
+    ∙ ap (λ (line : List ℕ). line ∷ []) (sym c.without_carriage_return-in-None.ensures.line)

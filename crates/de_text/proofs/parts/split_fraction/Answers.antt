@@ -5,10 +5,10 @@ use Rattle.de_text.proofs.parts.split_fraction.Goals as goal
 pub returns-clause-splits : goal.returns-clause-splits
 returns-clause-splits c =
     λ word negative signless.
-    rw c.parts_of.ensures
+    rw c.numeral_parts.ensures
     (split_is word _ (46 ∷ c.args.text.now) _ 0 1 _ negative signless refl refl refl
     c.in_ok-digits.ensures.number c.in_ok-digits.ensures.count c.in_ok-digits.ensures.rest
     c.in_ok-exponent_negative.ensures.shows (omega arith))
 
 pub returns-clause-near : goal.returns-clause-near
-returns-clause-near c = rw c.parts_of.ensures (record { mantissa = c.in_ok-digits.ensures.few; exponent = c.in_ok-exponent_negative.ensures.few })
+returns-clause-near c = rw c.numeral_parts.ensures (record { mantissa = c.in_ok-digits.ensures.few; exponent = c.in_ok-exponent_negative.ensures.few })

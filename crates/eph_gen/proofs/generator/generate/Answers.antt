@@ -13,7 +13,7 @@ pub loop-block-init : goal.loop-block-init
 unfolding state_after generated_text
 loop-block-init c =
     let all : c.args.blocks - 0 ≡ c.args.blocks = omega arith in (
-      (λ i. (c.in_ok-text.ensures.ok ∙ c.header.ensures) i ++ joined_lines (lines_from c.args.seed 0 (all i)))
+      (λ i. (c.in_ok-text.ensures.ok ∙ c.header_text.ensures) i ++ joined_lines (lines_from c.args.seed 0 (all i)))
           ∙ sym (joined_append header_lines (lines_from c.args.seed 0 c.args.blocks)),
       c.new-draws.ensures,
     )

@@ -23,12 +23,12 @@ returns-else-place-gt-NCOEFF-clause-word c state is =
     let high : c.args.place ≤ 1018 = c.if-place-gt-NCOEFF.false in
     let draw : c.draw.result ≡ drawn (state_after state (draws_upto c.args.place)) =
     c.draw.ensures.drawn ∙ ap drawn (c.draw.ensures.moved ∙ drawn_place state c.args.place c.args.draws.now low high is) in
-    let value : c.millionths.result ≡ millionths (term_at c.args.place) (drawn (state_after state (draws_upto c.args.place))) =
-    c.millionths.ensures ∙ (λ i. millionths (c.term_at.ensures.term i) (draw i)) in
-    let word : coefficient_word c.millionths.result ≡ block_word state c.args.block c.args.place =
+    let value : c.coefficient_in_millionths.result ≡ millionths (term_at c.args.place) (drawn (state_after state (draws_upto c.args.place))) =
+    c.coefficient_in_millionths.ensures ∙ (λ i. millionths (c.shape_at.ensures.term i) (draw i)) in
+    let word : coefficient_word c.coefficient_in_millionths.result ≡ block_word state c.args.block c.args.place =
     ap coefficient_word value ∙ sym (number_at state c.args.block c.args.place low high).word in
-    let fits : FitsSigned w64 c.millionths.result = record { sfits = c.millionths.type_inv } in
-    rw (to_z-of_z w64 c.millionths.result fits, word) at c.add_coefficient.ensures
+    let fits : FitsSigned w64 c.coefficient_in_millionths.result = record { sfits = c.coefficient_in_millionths.type_inv } in
+    rw (to_z-of_z w64 c.coefficient_in_millionths.result fits, word) at c.add_coefficient.ensures
 
 pub returns-else-place-gt-NCOEFF-clause-drawn : goal.returns-else-place-gt-NCOEFF-clause-drawn
 returns-else-place-gt-NCOEFF-clause-drawn c state is =

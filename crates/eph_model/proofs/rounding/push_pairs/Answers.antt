@@ -9,6 +9,6 @@ loop-number-preserved c =
     let capacity = c.push.ensures.capacity in
     let below = c.loop-number-test.true in (
       omega (arith, so_far.0, length, capacity, below),
-      λ before are. pairs_more before c.args.numbers.now c.loop-number.number-index _ c.kept_pair.result c.loop-number.pairs.items c.push.new.self.items
-          below (c.kept_pair.ensures _ c.rounded.ensures) c.in_ok-push.ensures.items (so_far.1 before are),
+      λ before are. pairs_more before c.args.numbers.now c.loop-number.number-index _ c.pair_or_zeros.result c.loop-number.pairs.items c.push.new.self.items
+          below (c.pair_or_zeros.ensures _ c.rounded.ensures) c.in_ok-push.ensures.items (so_far.1 before are),
     )

@@ -7,10 +7,10 @@ use Rattle.spec_steps.specs.Meanings.{bound_meant}
 use Rattle.column_steps.specs.Listed.{IsMadeAt}
 use Rattle.event_bounds.specs.Made.{IsBound}
 use Rattle.event_bounds.proofs.bounding.bound_over.Goals as goal
-use Rattle.event_bounds.proofs.bounding.bound_over.Goals.{After-bound_of}
+use Rattle.event_bounds.proofs.bounding.bound_over.Goals.{After-step_bound}
 
-pub bound_of-requires-clause-ready : goal.bound_of-requires-clause-ready
-bound_of-requires-clause-ready c =
+pub step_bound-requires-clause-ready : goal.step_bound-requires-clause-ready
+step_bound-requires-clause-ready c =
     let first = c.new-times.ensures.first ∙ to_z-of_z w64 c.args.a c.ranges.a in
     let last = c.new-times.ensures.last ∙ to_z-of_z w64 c.args.b c.ranges.b in
     record {
@@ -19,17 +19,17 @@ bound_of-requires-clause-ready c =
       velocity = rw c.column_ranges-velocity.ensures (record { view = refl; quantity = refl; first = refl; last = refl });
     }
 
-made : (c : After-bound_of) → (e : Term) → IsMadeAt c.args.listed.steps.now c.args.listed.place (of_term (sight_of c.args.states.now) e) → IsBound c.bound_of.result (bound_over c.args.states.now e c.args.a c.args.b)
+made : (c : After-step_bound) → (e : Term) → IsMadeAt c.args.listed.steps.now c.args.listed.place (of_term (sight_of c.args.states.now) e) → IsBound c.step_bound.result (bound_over c.args.states.now e c.args.a c.args.b)
 made c e is =
     let v = c.args.states.now in
     let a : to_z w64 (of_z w64 c.args.a) ≡ c.args.a = to_z-of_z w64 c.args.a c.ranges.a in
     let b : to_z w64 (of_z w64 c.args.b) ≡ c.args.b = to_z-of_z w64 c.args.b c.ranges.b in
-    subst (IsBound c.bound_of.result)
+    subst (IsBound c.step_bound.result)
     ((λ i. bound_meant v ((c.new-times.ensures.first ∙ a) i) ((c.new-times.ensures.last ∙ b) i) (is.stands.term i)) ∙ c.terms_mean_their_formulas.ensures.bounds v e c.args.a c.args.b)
-    c.bound_of.ensures
+    c.step_bound.ensures
 
 pub returns-clause-range : goal.returns-clause-range
-returns-clause-range c = λ e is. (made ((goal.at.returns-clause-range c).After-bound_of) e is).range
+returns-clause-range c = λ e is. (made ((goal.at.returns-clause-range c).After-step_bound) e is).range
 
 pub returns-clause-step : goal.returns-clause-step
-returns-clause-step c = λ e is. (made ((goal.at.returns-clause-step c).After-bound_of) e is).step
+returns-clause-step c = λ e is. (made ((goal.at.returns-clause-step c).After-step_bound) e is).step

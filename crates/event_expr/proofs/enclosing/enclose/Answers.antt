@@ -1,24 +1,28 @@
-use Rattle.std.proofs.Common.{w64, ◌≡◌}
+use Rattle.std.proofs.Common.{w64}
 use Rattle.std.proofs.lemmas.Int.{to_z-of_z}
 use mir.Val.{SFits}
-use Rattle.spec_expressions.specs.Term.{term, exact_of, enclosure_of}
+use Rattle.spec_expressions.proofs.Induction.{IsEnclosure-of}
+use Rattle.spec_expressions.specs.Term.{exact_of}
 use Rattle.spec_intervals.specs.Enclosure.{IsEnclosure}
-use Rattle.event_expr.proofs.Walk.{known, over, part-is_enclosure}
 use Rattle.event_expr.proofs.enclosing.enclose.Goals as goal
 
--- over the times that were asked for
-is_over : (g : _) (c : goal.After-enclose_over g) → c.enclose_over.result ≡ enclosure_of (λ leaf. g.S.States.answer c.args.states.now leaf c.args.a c.args.b) c.args.a c.args.b c.args.f.now
-is_over g c =
+-- the states return it over the times that were asked for
+pub returns-clause-equals : goal.returns-clause-equals
+returns-clause-equals g c =
     let a : SFits w64 c.args.a = c.ranges.a in
     let b : SFits w64 c.args.b = c.ranges.b in
-    over (g.S.States.answer c.args.states.now) c.enclose_over.result c.new.result.first c.new.result.last c.args.a c.args.b (term c.expr.result.now) c.args.f.now (simp to_z-of_z at c.new.ensures.first) (simp to_z-of_z at c.new.ensures.last) c.expr.ensures.whole c.enclose_over.ensures
+    simp to_z-of_z at c.enclosure.ensures
 
-whole : (g : _) (c : goal.After-enclose_over g) → IsEnclosure (exact_of (g.S.States.exact c.args.states.now) c.args.f.now) c.args.a c.args.b c.enclose_over.result
+-- it holds what the formula is, since what they return for coordinates does
+whole : (g : _) (c : goal.After-enclosure g) → IsEnclosure (exact_of (g.S.States.exact c.args.states.now) c.args.f.now) c.args.a c.args.b c.enclosure.result
 whole g c =
-    part-is_enclosure _ _ _ _ (known _ _ _ _ (g.met.S.States.spans c.args.states.now c.args.a c.args.b c.requires.fits) (λ leaf h. g.met.S.States.numbers c.args.states.now leaf c.args.a c.args.b h c.requires.fits) (λ leaf h. g.met.S.States.holds c.args.states.now leaf c.args.a c.args.b h c.requires.fits) (λ leaf h. g.met.S.States.within c.args.states.now leaf c.args.a c.args.b h c.requires.fits)) c.args.f.now (rw c.expr.ensures.whole at c.expr.ensures.formula) c.enclose_over.result (is_over g c)
-
-pub returns-clause-equals : goal.returns-clause-equals
-returns-clause-equals g c = is_over g c
+    let a : SFits w64 c.args.a = c.ranges.a in
+    let b : SFits w64 c.args.b = c.ranges.b in
+    let laws = g.met.S.States in
+    let fits = c.requires.fits in
+    let is = simp to_z-of_z at c.enclosure.ensures in
+    rw is (IsEnclosure-of _ _ _ (λ leaf h. laws.numbers c.args.states.now leaf c.args.a c.args.b h fits) (laws.spans c.args.states.now c.args.a c.args.b fits).ordered _
+    (λ leaf h. laws.holds c.args.states.now leaf c.args.a c.args.b h fits) c.args.f.now (rw c.expr-expr.ensures.whole at c.expr-expr.ensures.formula).leaves)
 
 pub returns-clause-mid : goal.returns-clause-mid
 returns-clause-mid g c = (whole g c).mid

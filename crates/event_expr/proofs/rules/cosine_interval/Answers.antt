@@ -3,7 +3,7 @@ use Rattle.std.proofs.lemmas.Int.{ints, to_z-of_z}
 use mir.Syntax.{w16}
 use mir.Val.{SFits}
 use Rattle.spec_intervals.specs.Interval.{cosine_exponent}
-use Rattle.event_expr.proofs.Walk.{decimal_kept, holds-number, cosine-part}
+use Rattle.event_expr.proofs.Decimals.{decimal_kept, holds-number, cosine-part}
 use Rattle.event_expr.proofs.rules.cosine_interval.Goals as goal
 
 pub from_decimal-requires-clause-exponent : goal.from_decimal-requires-clause-exponent

@@ -10,5 +10,5 @@ returns c =
     let l : SFits w128 c.parts-lo.result.0 = search rules in
     let h : SFits w128 c.parts-lo.result.1 = search rules in
     let s : SFits w32 c.parts-lo.result.2 = search rules in
-    let d : SFits w128 c.doubled_size.result = record { sfits = c.doubled_size.type_inv } in
-    twice_size-made c.args.range _ _ _ _ c.of.result c.parts-lo.ensures.lo c.parts-lo.ensures.hi c.parts-lo.ensures.exponent (simp to_z-of_z at c.doubled_size.ensures) (simp to_z-of_z at c.of.ensures.equals)
+    let d : SFits w128 c.twice_greater_magnitude.result = record { sfits = c.twice_greater_magnitude.type_inv } in
+    twice_size-made c.args.range _ _ _ _ c.of.result c.parts-lo.ensures.lo c.parts-lo.ensures.hi c.parts-lo.ensures.exponent (simp to_z-of_z at c.twice_greater_magnitude.ensures) (simp to_z-of_z at c.of.ensures.equals)

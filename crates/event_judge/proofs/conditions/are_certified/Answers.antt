@@ -12,7 +12,7 @@ test m g = is_certified (finding_in m.moment g)
 pub is_certified-requires : goal.is_certified-requires
 is_certified-requires c =
     let own = c.index-guards-place.result in
-    record { listed = rw (c.loop-place.invariant.same, c.guard.ensures) (step_of_guard c.args.made.now.steps c.args.made.now.room c.args.guards.now c.args.listed.now c.loop-place.place c.requires.listed c.loop-place-test.true own own (sym c.index-guards-place.is)) }
+    record { listed = rw (c.loop-place.invariant.same, c.guard_step.ensures) (step_of_guard c.args.made.now.steps c.args.made.now.room c.args.guards.now c.args.listed.now c.loop-place.place c.requires.listed c.loop-place-test.true own own (sym c.index-guards-place.is)) }
 
 pub loop-place-preserved : goal.loop-place-preserved
 loop-place-preserved c =

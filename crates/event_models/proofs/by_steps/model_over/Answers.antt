@@ -11,5 +11,5 @@ returns c =
     formula_covered v c.args.c c.args.d c.args.listed.steps.now c.args.listed.place
     (λ e t after before has. c.points.ensures v e c.args.c c.args.d t c.requires.fits after before has)
     (λ e t. c.terms_mean_their_formulas.ensures.points v e c.args.c t)
-    c.model_of.result
-    (rw (c.new-span.ensures.first, c.new-span.ensures.last, c.new-span.ensures.states, first, last) at c.model_of.ensures)
+    c.step_model.result
+    (rw (first, last) at c.step_model.ensures)

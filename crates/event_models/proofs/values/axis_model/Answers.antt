@@ -11,8 +11,8 @@ returns-in-Position c =
     let g = c.args.granule.now in
     let t = c.args.times.now in
     let sums = subst (λ quantity. IsSumModel quantity t.first t.last (series_of g c.args.axis) c.in_ok-sum.sum) c.in-Position.is c.in_ok-sum.ensures in
-    subst (λ quantity. IsAxisModel quantity t.first t.last g c.args.axis c.position_of.result) (sym c.in-Position.is)
-    (axis_model_made Position t.first t.last g c.args.axis t.ordered c.requires.granule c.requires.axis c.in_ok-sum.sum c.position_of.result sums (λ is. c.position_of.ensures (series_of g c.args.axis)))
+    subst (λ quantity. IsAxisModel quantity t.first t.last g c.args.axis c.position_model.result) (sym c.in-Position.is)
+    (axis_model_made Position t.first t.last g c.args.axis t.ordered c.requires.granule c.requires.axis c.in_ok-sum.sum c.position_model.result sums (λ is. c.position_model.ensures (series_of g c.args.axis)))
 
 pub returns-in-Velocity : goal.returns-in-Velocity
 returns-in-Velocity c =
@@ -21,5 +21,5 @@ returns-in-Velocity c =
     let over = c.requires.granule in
     let kept = seconds_kept t.first t.last g.start g.seconds over.evaluable.long over.evaluable.short over.evaluable.start over.from t.ordered over.upto in
     let sums = subst (λ quantity. IsSumModel quantity t.first t.last (series_of g c.args.axis) c.in_ok-sum.sum) c.in-Velocity.is c.in_ok-sum.ensures in
-    subst (λ quantity. IsAxisModel quantity t.first t.last g c.args.axis c.velocity_of.result) (sym c.in-Velocity.is)
-    (axis_model_made Velocity t.first t.last g c.args.axis t.ordered over c.requires.axis c.in_ok-sum.sum c.velocity_of.result sums (λ is. (rw kept at c.velocity_of.ensures) (series_of g c.args.axis) is refl))
+    subst (λ quantity. IsAxisModel quantity t.first t.last g c.args.axis c.velocity_model.result) (sym c.in-Velocity.is)
+    (axis_model_made Velocity t.first t.last g c.args.axis t.ordered over c.requires.axis c.in_ok-sum.sum c.velocity_model.result sums (λ is. (rw kept at c.velocity_model.ensures) (series_of g c.args.axis) is refl))

@@ -15,4 +15,4 @@ returns-in-Ok g c =
 pub returns-in-Err : goal.returns-in-Err
 returns-in-Err g c =
     let further = leaves_from (cutting c.args.judge.now.search) c.args.lines.now.end_line (c.args.root ∷ []) 0 in
-    subst (Fails (with_words (tokens c.args.line.now) CERT_REQUEST c.args.lines.now.end_line further c.args.lines.now.left)) (sym c.refusal.ensures) (c.in-Err.ensures.steps further)
+    subst (Fails (with_words (tokens c.args.line.now) CERT_REQUEST c.args.lines.now.end_line further c.args.lines.now.left)) (sym c.refusal_of_fault.ensures) (c.in-Err.ensures.steps further)

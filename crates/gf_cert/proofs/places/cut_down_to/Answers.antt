@@ -14,7 +14,7 @@ pub returns-then-not-may_be_cut-clause-place : goal.returns-then-not-may_be_cut-
 returns-then-not-may_be_cut-clause-place g c =
     let s = c.args.judge.now.search in
     let is = is_cutting s c.nodes_may_be_cut.ensures.sound c.nodes_may_be_cut.ensures.split c.nodes_may_be_cut.ensures.cut in
-    let other : is_same c.loop-node.here c.args.node ≡ false = grind (arith, c.loop-node-test.true, c.is_same.ensures) in
+    let other : is_same c.loop-node.here c.args.node ≡ false = grind (arith, c.loop-node-test.true, c.are_same_node.ensures) in
     let may : may_be_cut s c.loop-node.here ≡ false = grind (arith, c.if-not-may_be_cut.true, c.may_be_cut.ensures) in
     let none = never_found s is (waiting_after (cutting s) c.args.first (reverse c.args.waiting.now.items) c.args.node) c.loop-node.here c.loop-node.waiting.items c.args.node
     c.loop-node.invariant.here c.loop-node.invariant.same other may in
@@ -33,7 +33,7 @@ pub loop-node-preserved : goal.loop-node-preserved
 loop-node-preserved g c =
     let s = c.args.judge.now.search in
     let is = is_cutting s c.nodes_may_be_cut.ensures.sound c.nodes_may_be_cut.ensures.split c.nodes_may_be_cut.ensures.cut in
-    let other : is_same c.loop-node.here c.args.node ≡ false = grind (arith, c.loop-node-test.true, c.is_same.ensures) in
+    let other : is_same c.loop-node.here c.args.node ≡ false = grind (arith, c.loop-node-test.true, c.are_same_node.ensures) in
     let may : may_be_cut s c.loop-node.here ≡ true = grind (arith, c.if-not-may_be_cut.false, c.may_be_cut.ensures) in
     let cut = is.cut c.loop-node.here c.loop-node.invariant.here may in
     rw (c.in_ok-push.ensures.items, c.parts.ensures) (record {
@@ -47,7 +47,7 @@ pub returns-clause-place : goal.returns-clause-place
 returns-clause-place g c =
     let s = c.args.judge.now.search in
     let is = is_cutting s c.nodes_may_be_cut.ensures.sound c.nodes_may_be_cut.ensures.split c.nodes_may_be_cut.ensures.cut in
-    let same : is_same c.loop-node.here c.args.node ≡ true = grind (arith, c.loop-node-test.false, c.is_same.ensures) in
+    let same : is_same c.loop-node.here c.args.node ≡ true = grind (arith, c.loop-node-test.false, c.are_same_node.ensures) in
     ap (or_broken (at_line c.args.line CERT_PLACE))
     (found_here s is (waiting_after (cutting s) c.args.first (reverse c.args.waiting.now.items) c.args.node) c.loop-node.here c.loop-node.waiting.items c.args.node
     c.loop-node.invariant.here c.loop-node.invariant.same same)
@@ -55,5 +55,5 @@ returns-clause-place g c =
 pub returns-clause-valid : goal.returns-clause-valid
 returns-clause-valid g c =
     let s = c.args.judge.now.search in
-    let same : is_same c.loop-node.here c.args.node ≡ true = grind (arith, c.loop-node-test.false, c.is_same.ensures) in
+    let same : is_same c.loop-node.here c.args.node ≡ true = grind (arith, c.loop-node-test.false, c.are_same_node.ensures) in
     that_node (rules s) c.loop-node.here c.args.node c.loop-node.invariant.here same

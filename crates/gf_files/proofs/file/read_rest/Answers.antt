@@ -8,17 +8,17 @@ use Rattle.gf_files.proofs.file.read_rest.Goals as goal
 pub returns-in_err-count-clause-fault : goal.returns-in_err-count-clause-fault
 returns-in_err-count-clause-fault g c = λ place fault is.
     let given = err_from_is_err_and c.from_residual.result c.from_residual.ensures.1 in
-    absurd (c.read_more.ensures.no_fault place fault (passed_on c.read_more.result c.from_residual.result _ _ (all.Fault place fault) c.in_err-count.was given.1 given.2 is))
+    absurd (c.append_next_bytes.ensures.no_fault place fault (passed_on c.append_next_bytes.result c.from_residual.result _ _ (all.Fault place fault) c.in_err-count.was given.1 given.2 is))
 
 pub returns-in_err-count-clause-large : goal.returns-in_err-count-clause-large
 returns-in_err-count-clause-large g c = λ place fault is.
     let given = err_from_is_err_and c.from_residual.result c.from_residual.ensures.1 in
-    absurd (c.read_more.ensures.no_fault place fault (passed_on c.read_more.result c.from_residual.result _ _ (all.Fault place fault) c.in_err-count.was given.1 given.2 is))
+    absurd (c.append_next_bytes.ensures.no_fault place fault (passed_on c.append_next_bytes.result c.from_residual.result _ _ (all.Fault place fault) c.in_err-count.was given.1 given.2 is))
 
 pub returns-in_err-count-clause-failed : goal.returns-in_err-count-clause-failed
 returns-in_err-count-clause-failed g c = λ place is.
     let given = err_from_is_err_and c.from_residual.result c.from_residual.ensures.1 in
-    let of = c.read_more.ensures.failed place (passed_on c.read_more.result c.from_residual.result _ _ (all.NotRead place) c.in_err-count.was given.1 given.2 is) in
+    let of = c.append_next_bytes.ensures.failed place (passed_on c.append_next_bytes.result c.from_residual.result _ _ (all.NotRead place) c.in_err-count.was given.1 given.2 is) in
     (of.0, omega (arith, c.loop-shelf.invariant.later, of.1))
 
 pub returns-in_err-count-clause-taken : goal.returns-in_err-count-clause-taken
@@ -34,18 +34,18 @@ returns-then-count-eq0-clause-whole g c =
 
 pub returns-then-count-eq0-clause-taken : goal.returns-then-count-eq0-clause-taken
 returns-then-count-eq0-clause-taken g c = record {
-  read = c.read_more.new.text.items;
+  read = c.append_next_bytes.new.text.items;
   taken = grown_more _ _ _ _ _ _ c.loop-shelf.invariant.taken c.in_ok-count.ensures.read;
   few = c.in_ok-count.ensures.small;
 }
 
 pub loop-shelf-preserved : goal.loop-shelf-preserved
 loop-shelf-preserved g c = record {
-  ready = c.read_more.ensures.ready;
+  ready = c.append_next_bytes.ensures.ready;
   taken = grown_more _ _ _ _ _ _ c.loop-shelf.invariant.taken c.in_ok-count.ensures.read;
   size = c.in_ok-count.ensures.small;
-  files = c.read_more.ensures.files ∙ c.loop-shelf.invariant.files;
-  later = omega (arith, c.read_more.ensures.later, c.loop-shelf.invariant.later);
+  files = c.append_next_bytes.ensures.files ∙ c.loop-shelf.invariant.files;
+  later = omega (arith, c.append_next_bytes.ensures.later, c.loop-shelf.invariant.later);
 }
 
 pub returns-clause-large : goal.returns-clause-large

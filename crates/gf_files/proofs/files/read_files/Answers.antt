@@ -18,7 +18,7 @@ returns-in-Ok-clause-accepted g c =
 pub returns-in-Err-clause-fault : goal.returns-in-Err-clause-fault
 returns-in-Err-clause-fault g c = λ file fault is.
     let last = length c.args.names.now - 1 in
-    let which : in_file last c.in-Err.error ≡ all.Fault file fault = cc (is, c.in_file.ensures) in
+    let which : in_file last c.in-Err.error ≡ all.Fault file fault = cc (is, c.error_in_file.ensures) in
     let of = fault_of_file last file c.in-Err.error fault which in
     let many = length-map c.args.names.now string_bytes in
     let few : length (texts_of c.args.names.now) ≤ 64 = omega (arith, many, c.if-names-gt-MAX_FILES.false) in

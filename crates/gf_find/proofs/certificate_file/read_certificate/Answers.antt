@@ -16,4 +16,4 @@ returns-in-Err-Fault-clause-stopped g c =
 pub returns-in-Err-NotRead-clause-stopped : goal.returns-in-Err-NotRead-clause-stopped
 returns-in-Err-NotRead-clause-stopped g c =
     not_read_stops (g.S.Shelf.files c.args.shelf.now) c.as_str-word.result.now _ c.as_str-word.ensures (g.S.Shelf.faults c.args.shelf.now) (g.S.Shelf.faults c.read_file.new.shelf)
-    c.unread_by_name.result (c.in-Err-NotRead.ensures.failed _ (λ i. Err (c.in-Err-NotRead.field-0-is i))).1 c.unread_by_name.ensures
+    c.unread_refusal_by_name.result (c.in-Err-NotRead.ensures.failed _ (λ i. Err (c.in-Err-NotRead.field-0-is i))).1 c.unread_refusal_by_name.ensures

@@ -30,7 +30,7 @@ returns-clause-stopped g c =
     let find = c.args.find.now in
     let files = g.S.Shelf.files c.args.shelf.now in
     let count = g.S.Shelf.faults c.args.shelf.now in
-    let now = g.S.Shelf.faults c.ephemeris_of.new.shelf in
+    let now = g.S.Shelf.faults c.ephemeris_of_files.new.shelf in
     let held : HaveEphemeris files find.files c.in_ok-ephemeris.ephemeris = subst (λ (names : List (List ℕ)). HaveEphemeris files names c.in_ok-ephemeris.ephemeris) c.as_slice.ensures c.in_ok-ephemeris.ensures.accepted in
     err_also {X = Searched} {E = Refusal} (λ refusal. Stops c.args.most (query_of find) c.in_ticks-counted.result (span_of find c.in_ticks-counted.result) refusal)
     (λ refusal. SearchStops c.args.most find files count now refusal) c.search_ephemeris.result

@@ -4,8 +4,8 @@ use Rattle.spec_outcomes.proofs.SetSigns.{other_is}
 use Rattle.gf_search.proofs.Joining.{has_sets, related_are_found}
 use Rattle.gf_search.proofs.relations.related.Goals as goal
 
-pub combined-requires-clause-span : goal.combined-requires-clause-span
-combined-requires-clause-span g c =
+pub times_in_relation-requires-clause-span : goal.times_in_relation-requires-clause-span
+times_in_relation-requires-clause-span g c =
     has_sets c.args.query.now c.args.ephemeris.now c.args.span c.header-header.ensures.checked c.requires.block c.requires.query c.requires.within c.in_ok-both.ensures.sound
 
 pub returns-clause-found : goal.returns-clause-found

@@ -12,16 +12,16 @@ use Rattle.gf_search.proofs.scalar_search.search_span.Goals as goal
 pub returns-in_ok-leaves-in-Ok-clause-found : goal.returns-in_ok-leaves-in-Ok-clause-found
 returns-in_ok-leaves-in-Ok-clause-found g c =
     let ask = c.args.ask.now in
-    let judge = c.judge_of-judge.ensures in
-    let is : search_over (quad_scalar c.judge_of-judge.result.scalar.law) c.judge_of-judge.result.scalar.first c.judge_of-judge.result.scalar.last c.judge_of-judge.result.plan ≡ scalar_search ask = λ i. search_over (quad_scalar (judge.law i)) (judge.first i) (judge.last i) (judge.plan i) in
-    let same = c.in-Ok.ensures.leaves ∙ (λ i. leaves (rules (is i)) (c.root_of-root.ensures i)) in
+    let judge = c.scalar_judge-judge.ensures in
+    let is : search_over (quad_scalar c.scalar_judge-judge.result.scalar.law) c.scalar_judge-judge.result.scalar.first c.scalar_judge-judge.result.scalar.last c.scalar_judge-judge.result.plan ≡ scalar_search ask = λ i. search_over (quad_scalar (judge.law i)) (judge.first i) (judge.last i) (judge.plan i) in
+    let same = c.in-Ok.ensures.leaves ∙ (λ i. leaves (rules (is i)) (c.scalar_root-root.ensures i)) in
     leaves_are ask c.requires.limits c.requires.ordered _ (c.in_ok-leaves-in-Ok.ensures.leaves ∙ same) (no_more _ _ MAX_LEAVES same c.in-Ok.ensures.few)
 
 pub returns-in-Err-TooMany-clause-stopped : goal.returns-in-Err-TooMany-clause-stopped
 returns-in-Err-TooMany-clause-stopped g c =
     let ask = c.args.ask.now in
-    let judge = c.judge_of-judge.ensures in
-    let is : search_over (quad_scalar c.judge_of-judge.result.scalar.law) c.judge_of-judge.result.scalar.first c.judge_of-judge.result.scalar.last c.judge_of-judge.result.plan ≡ scalar_search ask = λ i. search_over (quad_scalar (judge.law i)) (judge.first i) (judge.last i) (judge.plan i) in
+    let judge = c.scalar_judge-judge.ensures in
+    let is : search_over (quad_scalar c.scalar_judge-judge.result.scalar.law) c.scalar_judge-judge.result.scalar.first c.scalar_judge-judge.result.scalar.last c.scalar_judge-judge.result.plan ≡ scalar_search ask = λ i. search_over (quad_scalar (judge.law i)) (judge.first i) (judge.last i) (judge.plan i) in
     let many = c.in-Err-TooMany.ensures.too_many (λ i. Err (c.in-Err-TooMany.field-0-is i)) in
     leaves_stop ask c.requires.limits c.requires.ordered (TooManyLeaves MAX_LEAVES)
-    (inr (refl, subst (λ (n : ℕ). MAX_LEAVES < n) (λ i. leaf_count (rules (is i)) (c.root_of-root.ensures i)) many))
+    (inr (refl, subst (λ (n : ℕ). MAX_LEAVES < n) (λ i. leaf_count (rules (is i)) (c.scalar_root-root.ensures i)) many))

@@ -10,7 +10,7 @@ use Rattle.spec_sets.proofs.Sets.{sets_of_true_signs}
 use Rattle.spec_sets.proofs.Telling.{leaves_tell}
 use Rattle.spec_trees.proofs.Placing.{covers_forward}
 use Rattle.gf_sets.specs.Walking.{IsWalked}
-use Rattle.gf_sets.proofs.Leaves.{all_walked, filler, first_are, first_walked, here_after, here_from, here_upto, here_walked, here_wide, none_before, sets_before}
+use Rattle.gf_sets.proofs.Leaves.{all_walked, filler, first_are, first_walked, here_after, here_next, here_upto, here_walked, none_before}
 use Rattle.gf_sets.proofs.Pairs.{run_as_read}
 use Rattle.gf_sets.proofs.from_leaves.at_least.Goals as goal
 
@@ -20,18 +20,18 @@ sign_at-requires g c =
     subst (λ (z : ℤ). g.S.States.fits c.args.states.now z z) (sym (to_z-of_z w64 c.args.from c.ranges.from))
     (c.requires.fits c.args.from (omega (arith, ints)) upto)
 
-pub add-requires-clause-early : goal.add-requires-clause-early
-add-requires-clause-early g c =
+pub add_with_sign-requires-clause-early : goal.add_with_sign-requires-clause-early
+add_with_sign-requires-clause-early g c =
     subst (λ (z : ℤ). earliest ≤ℤ z) (sym (to_z-of_z w64 c.args.from c.ranges.from)) c.requires.early
 
-pub add-requires-clause-after_sure : goal.add-requires-clause-after_sure
-add-requires-clause-after_sure g c = none_before _ _ c.new.ensures
+pub add_with_sign-requires-clause-after_sure : goal.add_with_sign-requires-clause-after_sure
+add_with_sign-requires-clause-after_sure g c = none_before _ _ c.new.ensures
 
-pub add-requires-clause-after_maybe : goal.add-requires-clause-after_maybe
-add-requires-clause-after_maybe g c = none_before _ _ c.new-2.ensures
+pub add_with_sign-requires-clause-after_maybe : goal.add_with_sign-requires-clause-after_maybe
+add_with_sign-requires-clause-after_maybe g c = none_before _ _ c.new-2.ensures
 
-pub add-requires-clause-late : goal.add-requires-clause-late
-add-requires-clause-late g c =
+pub add_with_sign-requires-clause-late : goal.add_with_sign-requires-clause-late
+add_with_sign-requires-clause-late g c =
     let upto = covers_forward c.args.leaves.now c.args.from (end_from c.args.from c.args.leaves.now) c.requires.follow in
     let late = c.requires.late in
     subst (λ (z : ℤ). z ≤ℤ latest) (sym (to_z-of_z w64 c.args.from c.ranges.from)) (omega (arith, ints, upto, late))
@@ -40,55 +40,31 @@ pub loop-leaf-init : goal.loop-leaf-init
 loop-leaf-init g c =
     let point = point_of (g.S.States.answer c.args.states.now) c.args.f.now in
     let from = to_z-of_z w64 c.args.from c.ranges.from in
-    subst (λ (z : ℤ). IsWalked point z (end_from z c.args.leaves.now) c.args.leaves.now c.args.leaves.now c.add.new.self.sure c.add.new.self.maybe) (sym from)
-    (first_walked point c.args.from c.args.leaves.now c.add.new.self.sure c.add.new.self.maybe c.requires.follow
-    (first_are point c.args.from c.args.leaves.now c.sign_at.result c.new.result c.new-2.result c.add.new.self.sure c.add.new.self.maybe
+    subst (λ (z : ℤ). IsWalked point z (end_from z c.args.leaves.now) c.args.leaves.now c.args.leaves.now c.add_with_sign.new.self.sure c.add_with_sign.new.self.maybe) (sym from)
+    (first_walked point c.args.from c.args.leaves.now c.add_with_sign.new.self.sure c.add_with_sign.new.self.maybe c.requires.follow
+    (first_are point c.args.from c.args.leaves.now c.sign_at.result c.new.result c.new-2.result c.add_with_sign.new.self.sure c.add_with_sign.new.self.maybe
     c.new.ensures c.new-2.ensures (c.sign_at.ensures ∙ ap point from)
-    (run_as_read c.sign_at.result c.sign_at.result _ _ c.args.from c.args.from c.new.result c.new-2.result c.add.new.self.sure c.add.new.self.maybe
-    (λ i. c.sign_at.result) from from c.in_ok-add.ensures)))
+    (run_as_read c.sign_at.result c.sign_at.result _ _ c.args.from c.args.from c.new.result c.new-2.result c.add_with_sign.new.self.sure c.add_with_sign.new.self.maybe
+    (λ i. c.sign_at.result) from from c.in_ok-add_with_sign.ensures)))
 
-pub put_leaf-requires-clause-wide : goal.put_leaf-requires-clause-wide
-put_leaf-requires-clause-wide g c =
-    here_wide (point_of (g.S.States.answer c.args.states.now) c.args.f.now) _ c.args.from (to_z-of_z w64 c.args.from c.ranges.from) c.args.leaves.now
-    c.loop-leaf.leaf-index c.loop-leaf.pair.sure c.loop-leaf.pair.maybe c.loop-leaf.invariant c.loop-leaf-test.true
+pub add_leaf-requires-clause-next : goal.add_leaf-requires-clause-next
+add_leaf-requires-clause-next g c =
+    here_next (point_of (g.S.States.answer c.args.states.now) c.args.f.now) _ c.args.from (to_z-of_z w64 c.args.from c.ranges.from) c.args.leaves.now
+    c.loop-leaf.leaf-index c.loop-leaf.pair.sure c.loop-leaf.pair.maybe c.loop-leaf.invariant c.loop-leaf-test.true c.requires.early c.requires.late
 
-pub put_leaf-requires-clause-early : goal.put_leaf-requires-clause-early
-put_leaf-requires-clause-early g c =
-    let from = here_from (point_of (g.S.States.answer c.args.states.now) c.args.f.now) _ c.args.from (to_z-of_z w64 c.args.from c.ranges.from) c.args.leaves.now
-    c.loop-leaf.leaf-index c.loop-leaf.pair.sure c.loop-leaf.pair.maybe c.loop-leaf.invariant c.loop-leaf-test.true in
-    let early = c.requires.early in
-    omega (arith, ints, from, early)
-
-pub put_leaf-requires-clause-late : goal.put_leaf-requires-clause-late
-put_leaf-requires-clause-late g c =
-    let upto = here_upto (point_of (g.S.States.answer c.args.states.now) c.args.f.now) _ c.args.from (to_z-of_z w64 c.args.from c.ranges.from) c.args.leaves.now
-    c.loop-leaf.leaf-index c.loop-leaf.pair.sure c.loop-leaf.pair.maybe c.loop-leaf.invariant c.loop-leaf-test.true in
-    let late = c.requires.late in
-    omega (arith, ints, upto, late)
-
-pub put_leaf-requires-clause-fits : goal.put_leaf-requires-clause-fits
-put_leaf-requires-clause-fits g c =
+pub add_leaf-requires-clause-fits : goal.add_leaf-requires-clause-fits
+add_leaf-requires-clause-fits g c =
     c.requires.fits (get_or c.args.leaves.now c.loop-leaf.leaf-index filler).node.b
     (here_after (point_of (g.S.States.answer c.args.states.now) c.args.f.now) _ c.args.from (to_z-of_z w64 c.args.from c.ranges.from) c.args.leaves.now
     c.loop-leaf.leaf-index c.loop-leaf.pair.sure c.loop-leaf.pair.maybe c.loop-leaf.invariant c.loop-leaf-test.true)
     (here_upto (point_of (g.S.States.answer c.args.states.now) c.args.f.now) _ c.args.from (to_z-of_z w64 c.args.from c.ranges.from) c.args.leaves.now
     c.loop-leaf.leaf-index c.loop-leaf.pair.sure c.loop-leaf.pair.maybe c.loop-leaf.invariant c.loop-leaf-test.true)
 
-pub put_leaf-requires-clause-after_sure : goal.put_leaf-requires-clause-after_sure
-put_leaf-requires-clause-after_sure g c =
-    (sets_before (point_of (g.S.States.answer c.args.states.now) c.args.f.now) _ c.args.from (to_z-of_z w64 c.args.from c.ranges.from) c.args.leaves.now
-    c.loop-leaf.leaf-index c.loop-leaf.pair.sure c.loop-leaf.pair.maybe c.loop-leaf.invariant c.loop-leaf-test.true).0
-
-pub put_leaf-requires-clause-after_maybe : goal.put_leaf-requires-clause-after_maybe
-put_leaf-requires-clause-after_maybe g c =
-    (sets_before (point_of (g.S.States.answer c.args.states.now) c.args.f.now) _ c.args.from (to_z-of_z w64 c.args.from c.ranges.from) c.args.leaves.now
-    c.loop-leaf.leaf-index c.loop-leaf.pair.sure c.loop-leaf.pair.maybe c.loop-leaf.invariant c.loop-leaf-test.true).1
-
 pub loop-leaf-preserved : goal.loop-leaf-preserved
 loop-leaf-preserved g c =
     here_walked (point_of (g.S.States.answer c.args.states.now) c.args.f.now) _ c.args.from (to_z-of_z w64 c.args.from c.ranges.from) c.args.leaves.now
     c.loop-leaf.leaf-index c.loop-leaf.pair.sure c.loop-leaf.pair.maybe c.loop-leaf.invariant c.loop-leaf-test.true
-    c.put_leaf.new.pair.sure c.put_leaf.new.pair.maybe c.in_ok-put_leaf.ensures
+    c.add_leaf.new.pair.sure c.add_leaf.new.pair.maybe c.in_ok-add_leaf.ensures
 
 pub returns-clause-signs : goal.returns-clause-signs
 returns-clause-signs g c =

@@ -8,4 +8,4 @@ use Rattle.gf_sets.proofs.from_leaves.sign_at.Goals as goal
 pub returns : goal.returns
 returns g c =
     let fits : SFits w64 c.args.t = c.ranges.t in
-    c.sign.ensures ∙ ap (λ (e : Enclosure). sign_of e.range) (simp to_z-of_z at c.enclose.ensures.equals)
+    c.sign.ensures ∙ ap (λ (e : Enclosure). sign_of e.range) (simp to_z-of_z at c.enclosure.ensures)

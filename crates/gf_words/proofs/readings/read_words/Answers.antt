@@ -11,5 +11,5 @@ returns-in-Ok-clause-read c =
 
 pub returns-in-Err-clause-refused : goal.returns-in-Err-clause-refused
 returns-in-Err-clause-refused c =
-    refused_is (app_of c.args.command) (map string_bytes c.args.words.now) c.in-Err.error c.fault_of_kind.result
-    (c.fault_of_kind.ensures ∙ ap word_fault c.kind.ensures) (c.in-Err.ensures.kinds c.requires)
+    refused_is (app_of c.args.command) (map string_bytes c.args.words.now) c.in-Err.error c.fault_of_clap_error.result
+    (c.fault_of_clap_error.ensures ∙ ap word_fault c.kind.ensures) (c.in-Err.ensures.kinds c.requires)

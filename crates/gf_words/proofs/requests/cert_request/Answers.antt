@@ -6,5 +6,5 @@ use Rattle.gf_words.proofs.requests.cert_request.Goals as goal
 
 pub returns : goal.returns
 returns c =
-    search_makes Cert (search_by (values_of c.args.matches.now) (file_names_of c.args.matches.now)) c.search.result c.map.result
-    c.search.ensures c.map.ensures.cases
+    search_makes Cert (search_by (values_of c.args.matches.now) (file_names_of c.args.matches.now)) c.search_of_matches.result c.map.result
+    c.search_of_matches.ensures c.map.ensures.cases

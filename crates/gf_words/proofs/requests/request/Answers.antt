@@ -11,8 +11,8 @@ returns-in-Some c =
     let known = command_asks c.args.words.now c.first-item.result _ c.in-len1-up.len_at_least c.first-item.is
     (c.in-Some.ensures ∙ ap command_of c.deref.ensures) in
     record {
-      asked = asked_if _ _ c.request_for.result known c.request_for.ensures;
-      refused = refused_if _ _ c.request_for.result known c.request_for.ensures;
+      asked = asked_if _ _ c.request_of_command.result known c.request_of_command.ensures;
+      refused = refused_if _ _ c.request_of_command.result known c.request_of_command.ensures;
     }
 
 pub returns-in-None-clause-refused : goal.returns-in-None-clause-refused

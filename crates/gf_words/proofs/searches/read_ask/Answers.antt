@@ -6,4 +6,4 @@ use Rattle.gf_words.proofs.searches.read_ask.Goals as goal
 pub returns-in-Err : goal.returns-in-Err
 returns-in-Err g c =
     first_bad (ask_of_parts c.args.kind) c.in-Err.ensures
-    (along (c.pair-places.ensures ∙ along c.read_bodies-bodies.ensures c.read_axes.ensures) (c.pair-numbers.ensures ∙ along c.read_numbers.ensures refl))
+    (along (c.join_parts-places.ensures ∙ along c.read_bodies-bodies.ensures c.read_axes.ensures) (c.join_parts-numbers.ensures ∙ along c.read_numbers.ensures refl))

@@ -6,4 +6,4 @@ use Rattle.gf_words.proofs.searches.read_limits.Goals as goal
 pub returns-in-Err : goal.returns-in-Err
 returns-in-Err c =
     first_bad limits_of c.in-Err.ensures
-    (along (c.pair-sizes.ensures ∙ along c.width.ensures c.depth.ensures) (c.pair-manner.ensures ∙ along c.workers.ensures c.cut.ensures))
+    (along (c.join_parts-sizes.ensures ∙ along c.width_option.ensures c.depth_option.ensures) (c.join_parts-manner.ensures ∙ along c.workers_option.ensures c.cut_rule_option.ensures))

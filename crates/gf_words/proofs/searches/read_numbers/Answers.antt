@@ -10,4 +10,4 @@ use Rattle.gf_words.proofs.searches.read_numbers.Goals as goal
 pub returns-in-Err : goal.returns-in-Err
 returns-in-Err c =
     first_bad (numbers_of c.args.kind) c.in-Err.ensures
-    (along (c.number-reference.ensures ∙ ap (λ (u : Use). part decimal_of opt.Ref u (values_of c.args.matches.now opt.Ref)) c.reference.ensures) c.read_radii.ensures)
+    (along (c.decimal_option-reference.ensures ∙ ap (λ (u : Use). part decimal_of opt.Ref u (values_of c.args.matches.now opt.Ref)) c.reference.ensures) c.read_radii.ensures)

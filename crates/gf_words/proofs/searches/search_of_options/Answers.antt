@@ -6,7 +6,7 @@ use Rattle.gf_words.proofs.searches.search_of_options.Goals as goal
 
 pub returns : goal.returns
 returns c =
-    made_along (λ (find : FindAsk). find) c.with_texts.result _ _
+    made_along (λ (find : FindAsk). find) c.search_with_texts.result _ _
     (search_made (values_of c.args.matches.now) c.args.kind c.args.target (file_names_of c.args.matches.now) c.args.search c.args.dir
     c.unwrap_or.result c.in_ok-values.values c.requires.search c.requires.turns c.unwrap_or.ensures c.in_ok-values.ensures)
-    c.with_texts.ensures
+    c.search_with_texts.ensures

@@ -1,12 +1,8 @@
-use Rattle.std.proofs.Common.{arith}
-use Rattle.std.proofs.lemmas.Int.{ints}
 use Rattle.span_models.proofs.Numbers.{first_kept}
 use Rattle.span_models.proofs.Widened.{not_negative}
 use Rattle.span_models.proofs.covering.is_not_negative.Goals as goal
 
 pub returns : goal.returns
 returns c h =
-    let first = first_kept c.coefficients.result.now c.args.m.now.coefficients c.coefficients.ensures.equals c.coefficients.ensures.small.coefficients in
-    let size = c.bulk.ensures in
-    let most = c.is_at_most_twice.ensures h in
-    not_negative c.signed_squares_are_products.ensures.first_above c.args.m.now.coefficients c.args.m.now.error c.args.m.now.exponent c.coefficients.ensures.small.coefficients.count (omega (arith, ints, first, size, most))
+    not_negative c.signed_squares_are_products.ensures.first_above c.args.m.now.coefficients c.args.m.now.error c.args.m.now.exponent _ _ c.coefficients.ensures.small.coefficients.count
+    (first_kept c.coefficients.result.now c.args.m.now.coefficients c.coefficients.ensures.equals c.coefficients.ensures.small.coefficients) c.bulk.ensures (c.is_at_most_twice.ensures h)

@@ -9,7 +9,7 @@ loop-seat-init g c = record { left = rw c.new-entries.ensures.items tt; whole = 
 
 pub loop-seat-preserved : goal.loop-seat-preserved
 loop-seat-preserved g c = record {
-  left = rw c.in_ok-add.ensures (zip_push Leaves c.loop-seat.yielded c.loop-seat.entries.items c.in-Some.seat c.end_seat.result c.loop-seat.invariant.left c.end_seat.ensures);
+  left = rw c.in_ok-add_item.ensures (zip_push Leaves c.loop-seat.yielded c.loop-seat.entries.items c.in-Some.seat c.end_seat.result c.loop-seat.invariant.left c.end_seat.ensures);
   whole = whole_step c.args.seats.items c.loop-seat.yielded c.loop-seat.seat-iterator.rest.items c.next.new.self.rest.items c.in-Some.seat c.loop-seat.invariant.whole c.in-Some.ensures.steps.0;
 }
 

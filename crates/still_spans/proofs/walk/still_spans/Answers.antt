@@ -8,4 +8,4 @@ returns-clause-follow c =
     let later = to_z-of_z w64 c.max-first.result (record { sfits = c.max-first.type_inv }) in
     let bound = c.max-first.ensures.self_bound in
     let from = to_z-of_z w64 c.args.from c.ranges.from in
-    sooner_if c.args.from _ c.between.result (omega (arith, ints, later, bound, from)) c.between.ensures.follow
+    sooner_if c.args.from _ c.still_spans_between.result (omega (arith, ints, later, bound, from)) c.still_spans_between.ensures.follow

@@ -5,8 +5,8 @@ use Rattle.window_text.proofs.printing.add_time.Goals as goal
 pub returns : goal.returns
 returns c =
     let fits = c.ranges.time in
-    let day = simp to_z-of_z at c.date_of.ensures in
-    let seconds = simp to_z-of_z at c.clock_of.ensures.value in
-    let date = c.date_of.result in
+    let day = simp to_z-of_z at c.date_of_time.ensures in
+    let seconds = simp to_z-of_z at c.seconds_after_midnight.ensures.value in
+    let date = c.date_of_time.result in
     let is = text_of_date c.args.time date.year date.month date.day c.requires (date.year_in, date.month_in, date.day_in) day in
-    rw (is, ← seconds) c.add_calendar.ensures
+    rw (is, ← seconds) c.add_date_and_time.ensures

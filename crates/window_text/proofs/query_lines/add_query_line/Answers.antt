@@ -8,4 +8,4 @@ returns c =
     let find = c.args.find.now in
     let from = c.ranges.from in
     let to = c.ranges.to in
-    two_pieces c.add_span.result _ _ _ (query_text c.args.word.now (c.args.name.now ++ c.args.wanted.now) find) (codes " span " ++ span_text find.tick c.args.from c.args.to) c.in_ok-add_query.ensures (simp to_z-of_z at c.add_span.ensures)
+    two_pieces c.add_span.result _ _ _ (query_text c.args.word.now (c.args.name.now ++ c.args.wanted.now) find) (codes " span " ++ span_text find.tick c.args.from c.args.to) c.in_ok-add_query_up_to_span.ensures (simp to_z-of_z at c.add_span.ensures)

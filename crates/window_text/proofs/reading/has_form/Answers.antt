@@ -9,16 +9,16 @@ returns-then-picture-word c = sym (other_length c.args.picture.now c.args.word.n
 pub loop-i-init : goal.loop-i-init
 loop-i-init c = refl
 
-pub returns-then-not-fits_mark : goal.returns-then-not-fits_mark
-returns-then-not-fits_mark c =
+pub returns-then-not-fits_picture_byte : goal.returns-then-not-fits_picture_byte
+returns-then-not-fits_picture_byte c =
     let at = form_at c.args.picture.now c.args.word.now c.loop-i.i c.loop-i-test.true (omega (arith, c.if-picture-word.false)) in
-    let test : fits (slice_index_or c.args.picture.now c.loop-i.i 0) (slice_index_or c.args.word.now c.loop-i.i 0) ≡ false = sym c.fits_mark.ensures ∙ c.if-not-fits_mark.true in
+    let test : fits (slice_index_or c.args.picture.now c.loop-i.i 0) (slice_index_or c.args.word.now c.loop-i.i 0) ≡ false = sym c.fits_picture_byte.ensures ∙ c.if-not-fits_picture_byte.true in
     sym (c.loop-i.invariant ∙ at ∙ rw test refl)
 
 pub loop-i-preserved : goal.loop-i-preserved
 loop-i-preserved c =
     let at = form_at c.args.picture.now c.args.word.now c.loop-i.i c.loop-i-test.true (omega (arith, c.if-picture-word.false)) in
-    let test : fits (slice_index_or c.args.picture.now c.loop-i.i 0) (slice_index_or c.args.word.now c.loop-i.i 0) ≡ true = sym c.fits_mark.ensures ∙ c.if-not-fits_mark.false in
+    let test : fits (slice_index_or c.args.picture.now c.loop-i.i 0) (slice_index_or c.args.word.now c.loop-i.i 0) ≡ true = sym c.fits_picture_byte.ensures ∙ c.if-not-fits_picture_byte.false in
     c.loop-i.invariant ∙ at ∙ rw test refl
 
 pub returns : goal.returns

@@ -35,24 +35,24 @@ digits_value-requires c =
     let long = length_of_fraction c.args.word.now _ c.has_fraction.ensures c.if-has_fraction.true in
     let back = c.split_at.ensures.back_len in omega (arith, length-drop {A = ℕ}, length-take {A = ℕ})
 
-pub tick_after-requires-clause-tick : goal.tick_after-requires-clause-tick
-tick_after-requires-clause-tick c =
+pub ticks_after_second-requires-clause-tick : goal.ticks_after_second-requires-clause-tick
+ticks_after_second-requires-clause-tick c =
     c.requires
 
-pub tick_after-requires-clause-second : goal.tick_after-requires-clause-second
-tick_after-requires-clause-second c =
+pub ticks_after_second-requires-clause-second : goal.ticks_after_second-requires-clause-second
+ticks_after_second-requires-clause-second c =
     c.read_calendar_time.ensures.bound
 
-pub tick_after-requires-clause-past : goal.tick_after-requires-clause-past
-tick_after-requires-clause-past c =
+pub ticks_after_second-requires-clause-past : goal.ticks_after_second-requires-clause-past
+ticks_after_second-requires-clause-past c =
     c.digits_value.ensures.bound
 
-pub tick_after-requires-else-tick-eq1000-clause-tick : goal.tick_after-requires-else-tick-eq1000-clause-tick
-tick_after-requires-else-tick-eq1000-clause-tick c =
+pub ticks_after_second-requires-else-tick-eq1000-clause-tick : goal.ticks_after_second-requires-else-tick-eq1000-clause-tick
+ticks_after_second-requires-else-tick-eq1000-clause-tick c =
     c.requires
 
-pub tick_after-requires-else-tick-eq1000-clause-second : goal.tick_after-requires-else-tick-eq1000-clause-second
-tick_after-requires-else-tick-eq1000-clause-second c =
+pub ticks_after_second-requires-else-tick-eq1000-clause-second : goal.ticks_after_second-requires-else-tick-eq1000-clause-second
+ticks_after_second-requires-else-tick-eq1000-clause-second c =
     c.read_calendar_time-else-tick-eq1000.ensures.bound
 
 pub returns-then-has_fraction : goal.returns-then-has_fraction
@@ -61,4 +61,4 @@ returns-then-has_fraction c =
     let back = c.split_at.result.1.now in
     let digits : c.digits_value.result ≡ value (drop 1 (ending word)) = c.digits_value.ensures.value ∙ (ap value (rest_is back 1) ∙ ap (λ (bytes : List ℕ). value (drop 1 bytes)) c.split_at.ensures.back) in
     let second : c.read_calendar_time.result ≡ time_shown (shown (before_fraction word)) = c.read_calendar_time.ensures.time ∙ ap (λ (bytes : List ℕ). time_shown (shown bytes)) c.split_at.ensures.front in
-    c.tick_after.ensures ∙ ((λ i. tick_from c.args.tick (digits i) (second i)) ∙ with_fraction c.args.tick word c.if-tick-eq1000.true (sym c.has_fraction.ensures ∙ c.if-has_fraction.true))
+    c.ticks_after_second.ensures ∙ ((λ i. tick_from c.args.tick (digits i) (second i)) ∙ with_fraction c.args.tick word c.if-tick-eq1000.true (sym c.has_fraction.ensures ∙ c.if-has_fraction.true))

@@ -13,4 +13,4 @@ returns c =
     let width : to_z w128 (of_z w128 c.from.result) ≡ pos ask.plan.width = to_z-of_z w128 c.from.result (record { sfits = c.from.type_inv }) ∙ c.from.ensures in
     let from : SFits w64 ask.from = search rules in
     let to : SFits w64 ask.to = search rules in
-    four_pieces c.add_times.result _ _ _ _ _ (codes "SCALAR quad " ++ ask.text) (turns_text ask.plan.dir) (limits_text (pos ask.plan.width) ask.plan.depth ask.plan.cut) (codes " span " ++ times ask.from ask.to) (rw c.as_str.ensures at c.in_ok-add_pair.ensures) (rw c.dir_name.ensures at c.in_ok-add_pair-2.ensures) (rw width at c.in_ok-add_limits.ensures) (rw (to_z-of_z w64 ask.from from, to_z-of_z w64 ask.to to) at c.add_times.ensures)
+    four_pieces c.add_time_pair.result _ _ _ _ _ (codes "SCALAR quad " ++ ask.text) (turns_text ask.plan.dir) (limits_text (pos ask.plan.width) ask.plan.depth ask.plan.cut) (codes " span " ++ times ask.from ask.to) (rw c.as_str.ensures at c.in_ok-add_name_and_value.ensures) (rw c.dir_name.ensures at c.in_ok-add_name_and_value-2.ensures) (rw width at c.in_ok-add_limits.ensures) (rw (to_z-of_z w64 ask.from from, to_z-of_z w64 ask.to to) at c.add_time_pair.ensures)

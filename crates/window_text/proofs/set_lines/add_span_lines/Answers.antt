@@ -12,4 +12,4 @@ loop-span-preserved c =
     let first : SFits w64 span.0 = search rules in
     let last : SFits w64 span.1 = search rules in
     one_more_piece (λ (span : ℤ × ℤ). c.args.word.now ++ span_text c.args.tick span.0 span.1 ++ codes "\n") spans c.loop-span.span-index (pos 0, pos 0) _ _ _ c.loop-span-test.true c.loop-span.invariant
-    (rw (to_z-of_z w64 span.0 first, to_z-of_z w64 span.1 last) at c.in_ok-add_line.ensures)
+    (rw (to_z-of_z w64 span.0 first, to_z-of_z w64 span.1 last) at c.in_ok-add_span_line.ensures)

@@ -11,6 +11,6 @@ unfolding from_decimal factor_interval
 returns c MoonShare =
     let mant : FitsSigned w64 c.args.ratio.mant = search rules in
     let exp : FitsSigned w16 c.args.ratio.exp = search rules in
-    rw (to_z-of_z w64 c.args.ratio.mant mant, to_z-of_z w16 c.args.ratio.exp exp) at c.share_beside.ensures
+    rw (to_z-of_z w64 c.args.ratio.mant mant, to_z-of_z w16 c.args.ratio.exp exp) at c.moon_share_of_mass.ensures
 returns c Cosine = c.from_decimal.ensures.equals ∙ refl
 returns c Sine = c.from_decimal-2.ensures.equals ∙ refl

@@ -6,4 +6,4 @@ pub returns-clause-over : goal.returns-clause-over
 returns-clause-over c =
     let fm : FitsSigned w64 c.middle.result = search rules in
     let sm = to_z-of_z w64 c.middle.result fm ∙ c.middle.ensures in
-    λ axis. c.make.ensures.arguments ∙ (rw sm at (c.argument_at-argument.ensures.equals axis))
+    λ axis. c.make_entries.ensures.arguments ∙ (rw sm at (c.argument_at-argument.ensures.equals axis))

@@ -8,4 +8,4 @@ returns-clause-over c =
     let fb : FitsSigned w64 c.last-last.result = search rules in
     let sa = to_z-of_z w64 c.first-first.result fa ∙ c.first-first.ensures in
     let sb = to_z-of_z w64 c.last-last.result fb ∙ c.last-last.ensures in
-    λ axis. c.make.ensures.arguments ∙ (rw (sa, sb) at (c.arguments_by-arguments.ensures.equals axis))
+    λ axis. c.make_entries.ensures.arguments ∙ (rw (sa, sb) at (c.arguments_by-arguments.ensures.equals axis))

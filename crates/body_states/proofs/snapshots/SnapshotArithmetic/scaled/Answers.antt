@@ -30,18 +30,17 @@ constant-constant-requires-clause-number c = rw (same c) (factor_number c.args.s
 
 pub product-requires : goal.product-requires
 product-requires c =
-    let laws = c.listed_enclosures_are_within_limits.ensures in
     let first = ap (λ (m : Moment). m.first) c.self.view_is in
     let last = ap (λ (m : Moment). m.last) c.self.view_is in
     let own = fits (goal.at.product-requires c).After-factor in
     let same_constant = constant (goal.at.product-requires c).After-constant-constant in
-    let x = one laws.within laws.encloses c.args.self.now own (term_of c.args.factor) (scaled_part _ c.args.factor) c.args.x.now c.requires.operand in
-    rw (first, last) (record {
+    let x = one c.listed_enclosures_are_within_limits.ensures _ _ c.self.view_is c.self.invariant.2 (term_of c.args.factor) (scaled_part _ c.args.factor) c.args.x.now c.requires.operand in
+    record {
       x_within = subst (AllWithin part_exponent) (sym same_constant) (constant_within c.args.self.now.view own.view c.args.factor _ _);
       y_within = x.within;
-      x_encloses = subst (Encloses c.args.self.now.first c.args.self.now.last) (sym same_constant) (constant_encloses c.args.self.now.view own.view c.args.factor _ _ own.ordered);
+      x_encloses = rw (first, last) (subst (Encloses c.args.self.now.first c.args.self.now.last) (sym same_constant) (constant_encloses c.args.self.now.view own.view c.args.factor _ _ own.ordered));
       y_encloses = x.encloses;
-    })
+    }
 
 pub returns : goal.returns
 returns c =

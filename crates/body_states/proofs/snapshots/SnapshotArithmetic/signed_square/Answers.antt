@@ -1,19 +1,12 @@
-use Rattle.std.proofs.Common.{◌∙◌, ap, subst}
-use Rattle.spec_bodies.specs.Views.{Fits}
+use Rattle.std.proofs.Common.{◌∙◌}
 use Rattle.spec_intervals.specs.Enclosure.{signed_square_of}
 use Rattle.spec_steps.specs.ColumnTerms.{signed_square as term_of}
 use Rattle.spec_steps.proofs.Parts.{square_part}
-use Rattle.body_states.specs.Moments.{Moment}
 use Rattle.body_states.proofs.Good.{one}
 use Rattle.body_states.proofs.snapshots.SnapshotArithmetic.signed_square.Goals as goal
 
 pub signed_square-requires : goal.signed_square-requires
-signed_square-requires c =
-    let laws = c.listed_enclosures_are_within_limits.ensures in
-    let first = ap (λ (m : Moment). m.first) c.self.view_is in
-    let last = ap (λ (m : Moment). m.last) c.self.view_is in
-    let fits = subst (λ (m : Moment). Fits m.view m.first m.last) c.self.view_is c.self.invariant.2 in
-    rw (first, last) (one laws.within laws.encloses c.args.self.now fits term_of (square_part _) c.args.x.now c.requires.operand)
+signed_square-requires c = one c.listed_enclosures_are_within_limits.ensures _ _ c.self.view_is c.self.invariant.2 term_of (square_part _) c.args.x.now c.requires.operand
 
 pub returns : goal.returns
 returns c = λ p part x. c.signed_square.ensures ∙ λ i. signed_square_of (c.self.view_is i).first (c.self.view_is i).last (x i)

@@ -9,20 +9,20 @@ times c =
     let sb : to_z w64 (of_z w64 c.args.b) ≡ c.args.b = to_z-of_z w64 c.args.b c.ranges.b in
     (rw sa at c.new-times.ensures.first, rw sb at c.new-times.ensures.last)
 
-pub write_wanted-requires-clause-fits : goal.write_wanted-requires-clause-fits
-write_wanted-requires-clause-fits c =
-    let is = times (goal.at.write_wanted-requires-clause-fits c).After-new-times in
+pub write_entries-requires : goal.write_entries-requires
+write_entries-requires c =
+    let is = times (goal.at.write_entries-requires c).After-new-times in
     rw (is.0, is.1) c.requires
 
-pub write_wanted-requires-2-clause-fits : goal.write_wanted-requires-2-clause-fits
-write_wanted-requires-2-clause-fits c =
-    let is = times (goal.at.write_wanted-requires-2-clause-fits c).After-new-times in
+pub write_entries-requires-2 : goal.write_entries-requires-2
+write_entries-requires-2 c =
+    let is = times (goal.at.write_entries-requires-2 c).After-new-times in
     rw (is.0, is.1) c.requires
 
 pub invariant_of-result : goal.invariant_of-result
 invariant_of-result c =
     let is = times (goal.at.invariant_of-result c).After-new-times in
-    (c.write_wanted.ensures, c.write_wanted-2.ensures, rw (is.0, is.1) c.requires)
+    ((c.write_entries.ensures.entries, c.write_entries.ensures.count), (c.write_entries-2.ensures.entries, c.write_entries-2.ensures.count), rw (is.0, is.1) c.requires)
 
 pub returns : goal.returns
 returns c =

@@ -1,4 +1,5 @@
+use Rattle.std.proofs.Common.{refl}
 use Rattle.body_states.proofs.states.BodyStates.column_ranges.Goals as goal
 
 pub invariant_of-result : goal.invariant_of-result
-invariant_of-result c = (c.write_entries.ensures.entries, c.write_entries.ensures.count, c.requires)
+invariant_of-result c = (c.write_entries.ensures.entries, c.write_entries.ensures.count, refl, c.requires)

@@ -21,9 +21,9 @@ dividers_of-requires-clause-present c =
     let d = (goal.at.dividers_of-requires-clause-present c).After-of-in_use in
     rw c.of-in_use.ensures.numbers (present_in_use _ (is_view d))
 
-pub entries_of-entries-requires-clause-present : goal.entries_of-entries-requires-clause-present
-entries_of-entries-requires-clause-present c =
-    let d = (goal.at.entries_of-entries-requires-clause-present c).After-of-in_use in
+pub entries_of-requires-clause-present : goal.entries_of-requires-clause-present
+entries_of-requires-clause-present c =
+    let d = (goal.at.entries_of-requires-clause-present c).After-of-in_use in
     rw c.of-in_use.ensures.numbers (present_in_use _ (is_view d))
 
 pub invariant_of-result : goal.invariant_of-result
@@ -34,4 +34,5 @@ invariant_of-result c =
       c.of-in_use.ensures.few,
       rw c.header.ensures.same at c.new-factors.ensures,
       c.dividers_of.ensures,
+      c.new-coordinates.ensures,
     )

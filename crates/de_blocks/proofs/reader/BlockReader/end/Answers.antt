@@ -13,12 +13,12 @@ returns-in-Refused-clause-end c =
 
 pub returns-in-Inside-clause-end : goal.returns-in-Inside-clause-end
 returns-in-Inside-clause-end c =
-    ap (λ e. Err e) c.ended.ensures
+    ap (λ e. Err e) c.fault_at_end.ensures
     ∙ subst (λ (p : Progress). Ends c.args.line (says 0 p []) (Err (errors.Fault (late c.args.line TRUNCATED)))) c.self.view_is
     (ends_inside (at c.self.inside.block.accepted c.self.inside.block.numbers c.self.inside.place) c.args.line c.in-Inside.is c.self.invariant)
 
 pub returns-in-Between-clause-end : goal.returns-in-Between-clause-end
 returns-in-Between-clause-end c =
-    subst (λ (p : Progress). Ends c.args.line (says 0 p []) c.whole.result) c.self.view_is
-    (ends_between (at c.self.inside.block.accepted c.self.inside.block.numbers c.self.inside.place) c.args.line c.whole.result c.in-Between.is
-    (subst (λ (e : Ephemeris). Ends c.args.line (from_record e []) c.whole.result) c.finish.ensures c.whole.ensures.end))
+    subst (λ (p : Progress). Ends c.args.line (says 0 p []) c.ephemeris_at_end.result) c.self.view_is
+    (ends_between (at c.self.inside.block.accepted c.self.inside.block.numbers c.self.inside.place) c.args.line c.ephemeris_at_end.result c.in-Between.is
+    (subst (λ (e : Ephemeris). Ends c.args.line (from_record e []) c.ephemeris_at_end.result) c.finish.ensures c.ephemeris_at_end.ensures.end))

@@ -12,16 +12,16 @@ use Rattle.eph_model.proofs.ephemeris.Ephemeris.border_near.Goals as goal
 pub loop-column-init : goal.loop-column-init
 loop-column-init c = none_yet c.args.self.now _ _
 
-pub preferred-nearest-requires-clause-first : goal.preferred-nearest-requires-clause-first
-preferred-nearest-requires-clause-first c =
+pub nearer_border-nearest-requires-clause-first : goal.nearer_border-nearest-requires-clause-first
+nearer_border-nearest-requires-clause-first c =
     let same_a : to_z w64 (of_z w64 c.args.a) ≡ c.args.a = to_z-of_z w64 c.args.a c.ranges.a in
     let same_b : to_z w64 (of_z w64 c.args.b) ≡ c.args.b = to_z-of_z w64 c.args.b c.ranges.b in
     rw (same_a, same_b)
     (short (IsBorderIn c.args.self.now (take c.loop-column.column-index c.args.columns.now) c.args.a c.args.b) c.args.self.now _ c.grid.result c.args.a c.args.b
     c.loop-column.nearest c.grid.ensures.grid c.requires.from c.requires.upto (λ s border. (border.after, border.upto)) (rw (same_a, same_b) at c.loop-column.invariant))
 
-pub preferred-nearest-requires-clause-second : goal.preferred-nearest-requires-clause-second
-preferred-nearest-requires-clause-second c =
+pub nearer_border-nearest-requires-clause-second : goal.nearer_border-nearest-requires-clause-second
+nearer_border-nearest-requires-clause-second c =
     let same_a : to_z w64 (of_z w64 c.args.a) ≡ c.args.a = to_z-of_z w64 c.args.a c.ranges.a in
     let same_b : to_z w64 (of_z w64 c.args.b) ≡ c.args.b = to_z-of_z w64 c.args.b c.ranges.b in
     rw (same_a, same_b)
@@ -32,7 +32,7 @@ pub loop-column-preserved : goal.loop-column-preserved
 loop-column-preserved c =
     let own = nearest_of_grid c.args.self.now _ c.grid.result c.header-header.ensures.checked (c.requires.present c.loop-column.column-index 0 c.loop-column-test.true) c.grid.ensures.grid
     _ _ c.border_near-own.result c.border_near-own.ensures in
-    rw c.preferred-nearest.ensures
+    rw c.nearer_border-nearest.ensures
     (one_more c.args.self.now c.args.columns.now c.loop-column.column-index _ _ c.loop-column.nearest c.border_near-own.result
     c.loop-column-test.true c.loop-column.invariant own)
 

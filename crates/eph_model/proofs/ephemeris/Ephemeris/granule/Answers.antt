@@ -21,8 +21,8 @@ returns-clause-coefficients c = ap (λ (column : Column). column.coefs) (column_
 pub returns-clause-granule : goal.returns-clause-granule
 returns-clause-granule c =
     let grid = c.grid-grid.result in
-    let fits : FitsSigned w64 c.time_of.result = search rules in
-    let start : to_z w64 (of_z w64 c.time_of.result) ≡ grid.start +ℤ pos (c.index_at-index.result * grid.seconds) = to_z-of_z w64 c.time_of.result fits ∙ c.time_of.ensures in
+    let fits : FitsSigned w64 c.granule_start.result = search rules in
+    let start : to_z w64 (of_z w64 c.granule_start.result) ≡ grid.start +ℤ pos (c.index_at-index.result * grid.seconds) = to_z-of_z w64 c.granule_start.result fits ∙ c.granule_start.ensures in
     let duration : unsigned_abs (to_z w64 grid.seconds) ≡ grid.seconds = length_passed grid.seconds grid.short in
     let same : to_z w64 (of_z w64 c.args.t) ≡ c.args.t = to_z-of_z w64 c.args.t c.ranges.t in
     found c.args.self.now c.args.column c.args.t grid c.index_at-index.result _ c.grid-grid.ensures.grid
@@ -39,12 +39,12 @@ returns-clause-start c =
     let grid = c.grid-grid.result in
     let index : ℕ = c.index_at-index.result in
     let last : index * grid.seconds ≤ grid.count * grid.seconds = mul-le index grid.seconds grid.count grid.seconds (omega (arith, c.index_at-index.ensures.in_range)) (omega arith) in
-    let fits : FitsSigned w64 c.time_of.result = search rules in
-    let same : to_z w64 (of_z w64 c.time_of.result) ≡ c.time_of.result = to_z-of_z w64 c.time_of.result fits in
-    rw same (omega (arith, ints, c.time_of.ensures, grid.early, last), omega (arith, ints, c.time_of.ensures, grid.late, last, grid.within))
+    let fits : FitsSigned w64 c.granule_start.result = search rules in
+    let same : to_z w64 (of_z w64 c.granule_start.result) ≡ c.granule_start.result = to_z-of_z w64 c.granule_start.result fits in
+    rw same (omega (arith, ints, c.granule_start.ensures, grid.early, last), omega (arith, ints, c.granule_start.ensures, grid.late, last, grid.within))
 
-pub time_of-requires : goal.time_of-requires
-time_of-requires c = omega (arith, c.index_at-index.ensures.in_range)
+pub granule_start-requires : goal.granule_start-requires
+granule_start-requires c = omega (arith, c.index_at-index.ensures.in_range)
 
 pub nonzero_div-block : goal.nonzero_div-block
 nonzero_div-block c =
@@ -75,10 +75,10 @@ granule_numbers-requires-clause-block c =
     rw c.from-granules.ensures (block_of c.args.self.now c.args.column c.grid-grid.result c.index_at-index.result c.grid-grid.ensures.grid c.index_at-index.ensures.in_range)
 
 pub returns-clause-components : goal.returns-clause-components
-returns-clause-components c = c.components.ensures.value
+returns-clause-components c = c.component_count.ensures.value
 
 pub returns-clause-count : goal.returns-clause-count
-returns-clause-count c = c.granule_numbers.ensures.count ∙ ap (λ (k : ℕ). k * c.grid-grid.result.column.coefs) (sym c.components.ensures.value)
+returns-clause-count c = c.granule_numbers.ensures.count ∙ ap (λ (k : ℕ). k * c.grid-grid.result.column.coefs) (sym c.component_count.ensures.value)
 
 pub returns-clause-bodies : goal.returns-clause-bodies
 returns-clause-bodies c = c.granule_numbers.ensures.bodies

@@ -11,8 +11,8 @@ use Rattle.eph_model.specs.Pairs.{ArePairs}
 use Rattle.eph_model.proofs.PairLists.{pairs_length, pairs_within, pairs_are}
 use Rattle.eph_model.proofs.ephemeris.Ephemeris.granule_pairs.Goals as goal
 
-pub numbers_at-requires-clause-block : goal.numbers_at-requires-clause-block
-numbers_at-requires-clause-block c =
+pub block_values_at-requires-clause-block : goal.block_values_at-requires-clause-block
+block_values_at-requires-clause-block c =
     let inside = c.self.inside in
     let within : c.args.block < inside.blocks = rw (← c.self.view_is) at c.requires.block in
     let fits = row_fits c.args.block inside.blocks inside.header.ncoeff within in
@@ -34,8 +34,8 @@ returns c =
     let checked : IsEphemeris e = rw c.self.view_is at c.self.invariant.0 in
     let body : c.args.number ≤ BODY_COLUMNS = c.if-number-gt-BODY_COLUMNS.false in
     let bodies : All IsBodyNumber numbers = numbers_bounded e c.args.number c.args.column c.args.block c.args.inner checked c.requires.present c.requires.block c.requires.inner body in
-    let own : c.numbers_at.result.now ≡ pairs =
-    c.numbers_at.ensures
+    let own : c.block_values_at.result.now ≡ pairs =
+    c.block_values_at.ensures
     ∙ (λ i. take (c.granule_place-first.ensures.size i) (drop (c.granule_place-first.ensures.first i) (take n (drop (c.args.block * n) (c.deref-2.ensures.value i)))))
     in
     own ∙ (pairs_are numbers pairs beside bodies ∙ pairs_of_body c.args.number numbers body)

@@ -14,23 +14,23 @@ returns c =
     let middle = c.index_before_middle-before.ensures in
     let same_a : to_z w64 (of_z w64 a) ≡ a = to_z-of_z w64 a c.ranges.a in
     let same_b : to_z w64 (of_z w64 b) ≡ b = to_z-of_z w64 b c.ranges.b in
-    rw (c.preferred.ensures, same_a, same_b)
+    rw (c.nearer_border.ensures, same_a, same_b)
     (nearest_of_two (IsBorderAt grid j a b) (IsBorderAt grid (j + 1) a b) (IsGridBorder grid a b) a b _ _
     (rw (same_a, same_b) at c.border_at-last.ensures) (rw (same_a, same_b) at c.border_at-next.ensures)
     (λ s border. record { index = j; border = border }) (λ s border. record { index = j + 1; border = border })
     (λ s border. covered grid a b s j c.requires.order middle.in_range
     (rw (same_a, same_b) at middle.from) (rw (same_a, same_b) at middle.before) border))
 
-pub preferred-requires-clause-first : goal.preferred-requires-clause-first
-preferred-requires-clause-first c =
+pub nearer_border-requires-clause-first : goal.nearer_border-requires-clause-first
+nearer_border-requires-clause-first c =
     let same_a : to_z w64 (of_z w64 c.args.a) ≡ c.args.a = to_z-of_z w64 c.args.a c.ranges.a in
     let same_b : to_z w64 (of_z w64 c.args.b) ≡ c.args.b = to_z-of_z w64 c.args.b c.ranges.b in
     rw (same_a, same_b)
     (short_in_grid (IsBorderAt c.args.self c.index_before_middle-before.result c.args.a c.args.b) c.args.self c.args.a c.args.b c.border_at-last.result
     c.requires.from c.requires.upto (λ s border. (border.after, border.upto)) (rw (same_a, same_b) at c.border_at-last.ensures))
 
-pub preferred-requires-clause-second : goal.preferred-requires-clause-second
-preferred-requires-clause-second c =
+pub nearer_border-requires-clause-second : goal.nearer_border-requires-clause-second
+nearer_border-requires-clause-second c =
     let same_a : to_z w64 (of_z w64 c.args.a) ≡ c.args.a = to_z-of_z w64 c.args.a c.ranges.a in
     let same_b : to_z w64 (of_z w64 c.args.b) ≡ c.args.b = to_z-of_z w64 c.args.b c.ranges.b in
     rw (same_a, same_b)

@@ -12,6 +12,6 @@ returns c =
     let grid = c.args.self in
     let passed : to_z w64 (of_z w64 (to_z w64 (of_z w64 c.args.t) -ℤ to_z w64 (of_z w64 grid.start))) ≡ c.args.t -ℤ grid.start = omega (arith, ints) in
     let offset = ap unsigned_abs passed ∙ natural (c.args.t -ℤ grid.start) (omega (arith, ints)) in record {
-      in_range = omega (arith, c.index_at.ensures);
-      index = c.index_at.ensures ∙ ap (λ n. min (n / grid.seconds) (grid.count - 1)) offset;
+      in_range = omega (arith, c.index_at_offset.ensures);
+      index = c.index_at_offset.ensures ∙ ap (λ n. min (n / grid.seconds) (grid.count - 1)) offset;
     }

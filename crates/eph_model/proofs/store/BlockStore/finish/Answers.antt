@@ -7,7 +7,7 @@ use Rattle.eph_model.proofs.store.BlockStore.finish.Goals as goal
 pub invariant_of-result : goal.invariant_of-result
 invariant_of-result c =
     let e = c.self.inside in
-    let whole : c.whole-whole.result ≡ e.blocks * e.header.ncoeff = rw (← c.self.view_is) at c.whole-whole.ensures ∙ c.self.invariant.0.whole in
+    let whole : c.whole_block_number_count-whole.result ≡ e.blocks * e.header.ncoeff = rw (← c.self.view_is) at c.whole_block_number_count-whole.ensures ∙ c.self.invariant.0.whole in
     let start : to_z w64 (of_z w64 e.start) ≡ e.start = search rules in
     let checked : IsEphemeris (record { header = e.header; start = e.start; blocks = e.blocks; numbers = c.truncate.new.self.items }) =
     subst (λ (l : List Decimal). IsEphemeris (record { header = e.header; start = e.start; blocks = e.blocks; numbers = l }))

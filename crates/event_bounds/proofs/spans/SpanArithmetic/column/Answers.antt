@@ -18,7 +18,7 @@ readable : (s : Span) → IsSpanRight s → (q : Quantity) (number axis : ℕ) �
 readable s right q number axis part = seen_readable s.states.now number axis right.fits.view (column_seen (sight_of s.states.now) q number axis part)
 
 pub of-range-requires-clause-usable : goal.of-range-requires-clause-usable
-of-range-requires-clause-usable c = rw c.known.ensures.view (readable c.args.self.now c.requires.ready c.args.quantity c.args.number c.args.axis c.requires.part).usable
+of-range-requires-clause-usable c = rw c.ranges_of.ensures.view (readable c.args.self.now c.requires.ready c.args.quantity c.args.number c.args.axis c.requires.part).usable
 
 pub of-range-requires-clause-axis : goal.of-range-requires-clause-axis
 of-range-requires-clause-axis c = (readable c.args.self.now c.requires.ready c.args.quantity c.args.number c.args.axis c.requires.part).along
@@ -27,10 +27,10 @@ of-range-requires-clause-axis c = (readable c.args.self.now c.requires.ready c.a
 abbrev asked : Span → Quantity → Asked → Asked
 asked s q r = record { view = s.states.now; quantity = q; axes = r.axes; first = s.times.span.now.first; last = s.times.span.now.last }
 
-read : (c : After-of-range) → c.of-range.result ≡ column_range (asked c.args.self.now c.args.quantity c.known.result.now) c.args.number c.args.axis
+read : (c : After-of-range) → c.of-range.result ≡ column_range (asked c.args.self.now c.args.quantity c.ranges_of.result.now) c.args.number c.args.axis
 read c =
-    let is = c.known.ensures in
-    c.of-range.ensures ∙ λ i. column_range (record { view = is.view i; quantity = is.quantity i; axes = c.known.result.now.axes; first = is.first i; last = is.last i }) c.args.number c.args.axis
+    let is = c.ranges_of.ensures in
+    c.of-range.ensures ∙ λ i. column_range (record { view = is.view i; quantity = is.quantity i; axes = c.ranges_of.result.now.axes; first = is.first i; last = is.last i }) c.args.number c.args.axis
 
 -- its values and its changes
 within : (c : After-of-range) → IsWithin wide_exponent c.of-range.result.values × IsWithin wide_exponent c.of-range.result.changes

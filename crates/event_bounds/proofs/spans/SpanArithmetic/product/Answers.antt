@@ -1,16 +1,10 @@
+use Rattle.spec_steps.specs.ColumnTerms.{product}
 use Rattle.spec_steps.proofs.Parts.{product_parts}
-use Rattle.event_bounds.proofs.Within.{part_within}
+use Rattle.event_bounds.proofs.Within.{first_within, second_within}
 use Rattle.event_bounds.proofs.spans.SpanArithmetic.product.Goals as goal
 
 pub product-requires-clause-x_within : goal.product-requires-clause-x_within
-product-requires-clause-x_within c =
-    let of = c.requires.operands in
-    part_within c.args.self.now c.requires.ready c.listed_bounds_are_within_limits.ensures of.first (product_parts _ of.first of.second of.part).0 c.args.x.now of.of_first
+product-requires-clause-x_within c = first_within c.args.self.now c.requires.ready c.listed_bounds_are_within_limits.ensures product (product_parts _) c.args.x.now c.args.y.now c.requires.operands
 
 pub product-requires-clause-y_within : goal.product-requires-clause-y_within
-product-requires-clause-y_within c =
-    let of = c.requires.operands in
-    part_within c.args.self.now c.requires.ready c.listed_bounds_are_within_limits.ensures of.second (product_parts _ of.first of.second of.part).1 c.args.y.now of.of_second
-
-pub returns : goal.returns
-returns c = λ p q part x y. c.product.ensures _ _ x y
+product-requires-clause-y_within c = second_within c.args.self.now c.requires.ready c.listed_bounds_are_within_limits.ensures product (product_parts _) c.args.x.now c.args.y.now c.requires.operands

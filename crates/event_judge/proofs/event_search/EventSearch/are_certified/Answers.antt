@@ -14,12 +14,12 @@ use Rattle.event_judge.proofs.event_search.EventSearch.are_certified.Goals as go
 pub is_certified-requires-clause-step : goal.is_certified-requires-clause-step
 is_certified-requires-clause-step c =
     let s = c.args.self.now in
-    let l = c.listed-listed.result.now in
+    let l = c.event_steps-listed.result.now in
     let own = c.index-guards-place.result in
     let are : c.guards-guards.result.now ≡ s.event.conditions = c.guards-guards.ensures ∙ ap (λ e. e.conditions) c.event.ensures in
     let n = slot_count l.slots in
-    let listed = subst (λ (xs : List Condition). AreGuardsAt l.steps n xs l) (sym are) (guards_at (sight_of s.view) s.event l c.listed-listed.ensures) in
-    rw c.guard.ensures (step_of_guard l.steps n c.guards-guards.result.now l c.loop-place.place listed c.loop-place-test.true own own (sym c.index-guards-place.is))
+    let listed = subst (λ (xs : List Condition). AreGuardsAt l.steps n xs l) (sym are) (guards_at (sight_of s.view) s.event l c.event_steps-listed.ensures) in
+    rw c.guard_step.ensures (step_of_guard l.steps n c.guards-guards.result.now l c.loop-place.place listed c.loop-place-test.true own own (sym c.index-guards-place.is))
 
 pub returns-then-not-is_certified : goal.returns-then-not-is_certified
 returns-then-not-is_certified c =

@@ -12,4 +12,4 @@ returns-clause-some c =
     let a : to_z w64 (of_z w64 c.args.a) ≡ c.args.a = to_z-of_z w64 c.args.a c.ranges.a in
     let b : to_z w64 (of_z w64 c.args.b) ≡ c.args.b = to_z-of_z w64 c.args.b c.ranges.b in
     let sign : c.sign.result ≡ sign_over s c.args.a c.args.b = c.sign.ensures ∙ (ap sign_of c.function_bound.ensures.range ∙ λ i. sign_of (bound_over s.view s.event.function (a i) (b i)).range) in
-    has_sign s c.args.a c.args.b c.sign.result c.known.result c.requires.fits c.requires.several sign c.known.ensures.some
+    has_sign s c.args.a c.args.b c.sign.result c.known_sign.result c.requires.fits c.requires.several sign c.known_sign.ensures.some

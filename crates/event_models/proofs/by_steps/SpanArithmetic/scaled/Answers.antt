@@ -9,6 +9,6 @@ pub returns : goal.returns
 returns c =
     let s = c.args.self.now in
     let v = s.states.now in
-    λ p part. c.product_of.ensures (λ t. factor_interval (factor_of v c.args.factor)) (term_at s p)
+    λ p part. c.product_model.ensures (λ t. factor_interval (factor_of v c.args.factor)) (term_at s p)
     (constant_made s.times.first s.times.last s.times.ordered c.of_interval-constant.result _ (factor_ordered v.ephemeris.header.emrat c.args.factor)
     (rw c.factor.ensures at c.of_interval-constant.ensures))

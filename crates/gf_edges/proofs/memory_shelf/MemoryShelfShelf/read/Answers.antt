@@ -12,8 +12,8 @@ returns-clause-bytes c =
     let place = c.in-Some.place in
     let was : c.args.self.now.left ≡ Some (drop place.at (bytes_at files place.index)) =
     ap (λ (s : ShelfState). s.left) (sym c.self.view_is) ∙ ap (λ (p : Option Place). left_from files p) c.in-Some.is in
-    let left : c.rest_at-left.result.now ≡ drop place.at (bytes_at files place.index) =
-    c.rest_at-left.ensures.bytes ∙ ap (λ (kept : Kept). drop place.at (bytes_at kept place.index)) c.deref.ensures.value in
+    let left : c.unread_bytes-left.result.now ≡ drop place.at (bytes_at files place.index) =
+    c.unread_bytes-left.ensures.bytes ∙ ap (λ (kept : Kept). drop place.at (bytes_at kept place.index)) c.deref.ensures.value in
     let size : length c.copy_from_slice.new.self ≡ c.min-count.result = omega (arith, c.copy_from_slice.ensures.len, length-take {A = ℕ}) in (
       rw was (read_moves _ c.args.buf.now _ _ _ _ left c.copy_from_slice.ensures.after size),
       λ none room. read_ends _ c.args.buf.now _ _ _ _ c.self.inside.piece left size c.self.invariant (search rules) none room,

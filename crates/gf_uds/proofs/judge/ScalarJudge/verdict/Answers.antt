@@ -12,21 +12,21 @@ returns-then-is_turnless g c =
     let read = as_read j.scalar.first j.scalar.last c.args.node j.scalar.low j.scalar.high c.requires.from c.requires.inside c.requires.to in
     sym (turnless s c.args.node c.requires.inside j.some_width _ (c.reach-whole.ensures ∙ read s.scalar.reach) (sym c.is_turnless.ensures ∙ c.if-is_turnless.true))
 
-pub returns-then-is_steady : goal.returns-then-is_steady
-returns-then-is_steady g c =
+pub returns-then-is_decided_by_ends : goal.returns-then-is_decided_by_ends
+returns-then-is_decided_by_ends g c =
     let j = c.args.self.now in
     let s = search_over (g.L.Law.scalar j.scalar.law) j.scalar.first j.scalar.last j.plan in
     let read = as_read j.scalar.first j.scalar.last c.args.node j.scalar.low j.scalar.high c.requires.from c.requires.inside c.requires.to in
     let first = c.sign_at.ensures ∙ ap reach_sign (read (λ a b. s.scalar.reach a a)) in
-    let last = c.sign_at-then-is_steady.ensures ∙ ap reach_sign (read (λ a b. s.scalar.reach b b)) in
-    (c.end_verdict.ensures ∙ (λ i. end_verdict (criteria s) c.args.node [] (first i) (last i)))
+    let last = c.sign_at-then-is_decided_by_ends.ensures ∙ ap reach_sign (read (λ a b. s.scalar.reach b b)) in
+    (c.verdict_by_ends.ensures ∙ (λ i. end_verdict (criteria s) c.args.node [] (first i) (last i)))
     ∙ sym (ended s c.args.node c.requires.inside j.some_width _ (c.reach-whole.ensures ∙ read s.scalar.reach)
-    (sym c.is_turnless.ensures ∙ c.if-is_turnless.false) (sym c.is_steady.ensures ∙ c.if-is_steady.true))
+    (sym c.is_turnless.ensures ∙ c.if-is_turnless.false) (sym c.is_decided_by_ends.ensures ∙ c.if-is_decided_by_ends.true))
 
-pub returns-else-is_steady : goal.returns-else-is_steady
-returns-else-is_steady g c =
+pub returns-else-is_decided_by_ends : goal.returns-else-is_decided_by_ends
+returns-else-is_decided_by_ends g c =
     let j = c.args.self.now in
     let s = search_over (g.L.Law.scalar j.scalar.law) j.scalar.first j.scalar.last j.plan in
     let read = as_read j.scalar.first j.scalar.last c.args.node j.scalar.low j.scalar.high c.requires.from c.requires.inside c.requires.to in
-    c.limit_verdict.ensures ∙ sym (limited s c.args.node c.requires.inside j.some_width _ (c.reach-whole.ensures ∙ read s.scalar.reach)
-    (sym c.is_turnless.ensures ∙ c.if-is_turnless.false) (sym c.is_steady.ensures ∙ c.if-is_steady.false))
+    c.verdict_by_limits.ensures ∙ sym (limited s c.args.node c.requires.inside j.some_width _ (c.reach-whole.ensures ∙ read s.scalar.reach)
+    (sym c.is_turnless.ensures ∙ c.if-is_turnless.false) (sym c.is_decided_by_ends.ensures ∙ c.if-is_decided_by_ends.false))

@@ -6,5 +6,5 @@ overflow_add-depth g c =
     let j = c.args.self.now in
     let is = j.sound.cut c.args.node c.requires.valid c.requires.split in
     let below = is.right.depth in
-    let deepest = c.deepest-deepest.ensures in
+    let deepest = c.depth_limit-deepest.ensures in
     omega (arith, below, deepest)

@@ -14,5 +14,5 @@ returns-then-a-b c =
     let f2 : SFits w128 c.from-b.result = record { sfits = c.from-b.type_inv } in
     let first : c.from-a.result ≡ c.args.a = search rules in
     let last : c.from-b.result ≡ c.args.b = search rules in
-    let wide : c.wide_reach.result ≡ quad_reach k c.from-a.result c.from-b.result = simp to_z-of_z at c.wide_reach.ensures in
+    let wide : c.reach_of_span.result ≡ quad_reach k c.from-a.result c.from-b.result = simp to_z-of_z at c.reach_of_span.ensures in
     wide ∙ (λ i. quad_reach k (first i) (last i))

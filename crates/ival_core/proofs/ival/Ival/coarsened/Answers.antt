@@ -9,12 +9,12 @@ use Rattle.ival_core.proofs.ival.Ival.coarsened.Goals as goal
 pub returns : goal.returns
 unfolding coarsened
 returns c =
-    let own = c.at_exponent-own.ensures in
+    let own = c.raise_ival-own.ensures in
     let low = own.lo_small in
     let high = own.hi_small in
     let bound = own.exponent_bound in
     let given : to_z w32 (of_z w32 c.args.s) ≡ c.args.s = to_z-of_z w32 c.args.s c.ranges.s in
-    let lo : to_z w128 (of_z w128 c.at_exponent-own.result.lo) ≡ (at_exponent (to_z w32 (of_z w32 c.args.s)) c.args.self).lo = kept c.at_exponent-own.result.lo _ (omega (arith, ints)) own.lo in
-    let hi : to_z w128 (of_z w128 c.at_exponent-own.result.hi) ≡ (at_exponent (to_z w32 (of_z w32 c.args.s)) c.args.self).hi = kept c.at_exponent-own.result.hi _ (omega (arith, ints)) own.hi in
-    let e : to_z w32 (of_z w32 c.at_exponent-own.result.s) ≡ (at_exponent (to_z w32 (of_z w32 c.args.s)) c.args.self).s = to_z-of_z w32 c.at_exponent-own.result.s (omega (arith, ints)) ∙ own.exponent in
-    c.narrowed.ensures ∙ (λ i. narrow (lo i) (hi i) (e i)) ∙ (λ i. coarsened (given i) c.args.self)
+    let lo : to_z w128 (of_z w128 c.raise_ival-own.result.lo) ≡ (at_exponent (to_z w32 (of_z w32 c.args.s)) c.args.self).lo = kept c.raise_ival-own.result.lo _ (omega (arith, ints)) own.lo in
+    let hi : to_z w128 (of_z w128 c.raise_ival-own.result.hi) ≡ (at_exponent (to_z w32 (of_z w32 c.args.s)) c.args.self).hi = kept c.raise_ival-own.result.hi _ (omega (arith, ints)) own.hi in
+    let e : to_z w32 (of_z w32 c.raise_ival-own.result.s) ≡ (at_exponent (to_z w32 (of_z w32 c.args.s)) c.args.self).s = to_z-of_z w32 c.raise_ival-own.result.s (omega (arith, ints)) ∙ own.exponent in
+    c.normalize_ends.ensures ∙ (λ i. narrow (lo i) (hi i) (e i)) ∙ (λ i. coarsened (given i) c.args.self)

@@ -5,7 +5,7 @@ use Rattle.spec_intervals.specs.Interval.{distance_exponent, cosine_exponent, fr
 use Rattle.spec_intervals.proofs.Decimals.{Holds-from_decimal}
 use Rattle.spec_intervals.proofs.DecimalEnds.{distance-size, cosine-size}
 use Rattle.ival_core.proofs.ival.Ival.from_decimal.Goals as goal
-use Rattle.ival_core.proofs.ival.Ival.from_decimal.Goals.{Start, After-decimal_at}
+use Rattle.ival_core.proofs.ival.Ival.from_decimal.Goals.{Start, After-decimal_ival}
 
 size_is : (c : Start) → unsigned_abs c.args.mant * (10 ^ up c.args.exp * 2 ^ down c.args.s) ≤ 2 ^ 60 * 10 ^ down c.args.exp
 size_is c = by c.requires.exponent
@@ -14,19 +14,19 @@ size_is c = by c.requires.exponent
     by (inl e) = distance-size c.args.mant c.args.exp c.args.s e (c.requires.distance e)
     by (inr e) = cosine-size c.args.mant c.args.exp c.args.s e (c.requires.cosine e)
 
-pub decimal_at-requires-clause-size : goal.decimal_at-requires-clause-size
-decimal_at-requires-clause-size c =
+pub decimal_ival-requires-clause-size : goal.decimal_ival-requires-clause-size
+decimal_ival-requires-clause-size c =
     let m = c.ranges.mant in
     let q = c.ranges.exp in
     let s = c.ranges.s in
     simp to_z-of_z (size_is c)
 
-equals : (c : After-decimal_at) → c.decimal_at.result ≡ from_decimal c.args.mant c.args.exp c.args.s
+equals : (c : After-decimal_ival) → c.decimal_ival.result ≡ from_decimal c.args.mant c.args.exp c.args.s
 equals c =
     let m = c.ranges.mant in
     let q = c.ranges.exp in
     let s = c.ranges.s in
-    simp to_z-of_z at c.decimal_at.ensures
+    simp to_z-of_z at c.decimal_ival.ensures
 
 pub returns-clause-equals : goal.returns-clause-equals
 returns-clause-equals c = equals c

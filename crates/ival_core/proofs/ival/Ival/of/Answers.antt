@@ -7,4 +7,4 @@ returns-clause-holds c r h =
     let l = c.ranges.lo in
     let u = c.ranges.hi in
     let s = c.ranges.s in
-    rw (simp to_z-of_z at c.narrowed_any.ensures) (Holds-narrowed c.args.lo c.args.hi c.args.s r h)
+    rw (simp to_z-of_z at c.normalize_any_ends.ensures) (Holds-narrowed c.args.lo c.args.hi c.args.s r h)

@@ -9,4 +9,4 @@ returns-clause-holds c r h =
     let u = c.ranges.hi in
     let s = c.ranges.s in
     let n = c.ranges.seconds in
-    rw (simp to_z-of_z at c.scaled.ensures) (Holds-scale c.args.lo c.args.hi c.args.s _ r (let p = c.requires.length in omega (arith, ints)) h)
+    rw (simp to_z-of_z at c.scale_ends.ensures) (Holds-scale c.args.lo c.args.hi c.args.s _ r (let p = c.requires.length in omega (arith, ints)) h)

@@ -7,4 +7,4 @@ returns-clause-holds c r h =
     let l = c.ranges.lo in
     let u = c.ranges.hi in
     let s = c.ranges.s in
-    rw (simp to_z-of_z at c.scaled_by.ensures.equals) (Holds-scale c.args.lo c.args.hi c.args.s _ r c.scaled_by.ensures.positive h)
+    rw (simp to_z-of_z at c.scale_ends_by.ensures.equals) (Holds-scale c.args.lo c.args.hi c.args.s _ r c.scale_ends_by.ensures.positive h)

@@ -9,6 +9,6 @@ pub returns : goal.returns
 returns c =
     let f = c.ranges.first in
     let s = c.ranges.second in
-    let first : to_z w128 (of_z w128 c.lifted.result) ≡ pos (2 ^ c.fine_shift-j.result) *ℤ c.args.first = to_z-of_z w128 c.lifted.result (record { sfits = c.lifted.type_inv }) ∙ (simp to_z-of_z at c.lifted.ensures) in
-    let second : to_z w128 (of_z w128 c.lifted-2.result) ≡ pos (2 ^ c.fine_shift-j.result) *ℤ c.args.second = to_z-of_z w128 c.lifted-2.result (record { sfits = c.lifted-2.type_inv }) ∙ (simp to_z-of_z at c.lifted-2.ensures) in
-    line_near c.lists.ensures.near c.changes.ensures.lowered c.args.first c.args.second c.args.error c.args.exponent c.fine_shift-j.result _ _ c.line_of-wide.result _ _ first second c.line_of-wide.ensures.coefficients c.lifted_error.ensures (exponent_lowered c.args.exponent c.fine_shift-j.result c.requires c.fine_shift-j.ensures) c.settled.result c.settled.ensures
+    let first : to_z w128 (of_z w128 c.power_multiple.result) ≡ pos (2 ^ c.spare_bits-j.result) *ℤ c.args.first = to_z-of_z w128 c.power_multiple.result (record { sfits = c.power_multiple.type_inv }) ∙ (simp to_z-of_z at c.power_multiple.ensures) in
+    let second : to_z w128 (of_z w128 c.power_multiple-2.result) ≡ pos (2 ^ c.spare_bits-j.result) *ℤ c.args.second = to_z-of_z w128 c.power_multiple-2.result (record { sfits = c.power_multiple-2.type_inv }) ∙ (simp to_z-of_z at c.power_multiple-2.ensures) in
+    line_near c.lists.ensures.near c.changes.ensures.lowered c.args.first c.args.second c.args.error c.args.exponent c.spare_bits-j.result _ _ c.line_coefficients-wide.result _ _ first second c.line_coefficients-wide.ensures.coefficients c.error_in_finer_unit.ensures (exponent_lowered c.args.exponent c.spare_bits-j.result c.requires c.spare_bits-j.ensures) c.settled.result c.settled.ensures

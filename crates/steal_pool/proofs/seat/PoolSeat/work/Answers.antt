@@ -37,22 +37,22 @@ returns-in-None-next_node-clause-left g c = left_done g.N.Naming.rules c.next_no
 
 pub returns-in-Err-clause-works : goal.returns-in-Err-clause-works
 returns-in-Err-clause-works g c =
-    seat_refused g.N.Naming.rules c.args.self.now c.next_node.new.self c.work_on_node.new.self c.refuse.new.self _
-    (seat_more g.N.Naming.rules c.args.self.now c.loop.self c.next_node.new.self c.loop.invariant.works c.next_node.ensures.works) c.work_on_node.ensures.works c.refuse.ensures
+    seat_refused g.N.Naming.rules c.args.self.now c.next_node.new.self c.work_on_node.new.self c.note_stop.new.self _
+    (seat_more g.N.Naming.rules c.args.self.now c.loop.self c.next_node.new.self c.loop.invariant.works c.next_node.ensures.works) c.work_on_node.ensures.works c.note_stop.ensures
 
 pub returns-in-Err-clause-same : goal.returns-in-Err-clause-same
 returns-in-Err-clause-same g c =
-    same_refused c.args.self.now c.work_on_node.new.self c.refuse.new.self _
-    (same_more c.args.self.now c.next_node.new.self c.work_on_node.new.self (same_more c.args.self.now c.loop.self c.next_node.new.self c.loop.invariant.same c.next_node.ensures.same) c.work_on_node.ensures.same) c.refuse.ensures
+    same_refused c.args.self.now c.work_on_node.new.self c.note_stop.new.self _
+    (same_more c.args.self.now c.next_node.new.self c.work_on_node.new.self (same_more c.args.self.now c.loop.self c.next_node.new.self c.loop.invariant.same c.next_node.ensures.same) c.work_on_node.ensures.same) c.note_stop.ensures
 
 pub returns-in-Err-clause-refusal : goal.returns-in-Err-clause-refusal
-returns-in-Err-clause-refusal g c = stopped_by g.N.Naming.rules c.work_on_node.new.self c.refuse.new.self c.in-Err.stop c.refuse.ensures c.in-Err.ensures.full c.error.result c.error.ensures
+returns-in-Err-clause-refusal g c = stopped_by g.N.Naming.rules c.work_on_node.new.self c.note_stop.new.self c.in-Err.stop c.note_stop.ensures c.in-Err.ensures.full c.error.result c.error.ensures
 
 pub returns-in-Err-clause-holds : goal.returns-in-Err-clause-holds
-returns-in-Err-clause-holds g c = (c.in-Some-next_node.node, ap (λ (s : Seat). s.worker.hand) c.refuse.ensures ∙ c.in-Err.ensures.holds ∙ sym c.in-Some-next_node.ensures.hand)
+returns-in-Err-clause-holds g c = (c.in-Some-next_node.node, ap (λ (s : Seat). s.worker.hand) c.note_stop.ensures ∙ c.in-Err.ensures.holds ∙ sym c.in-Some-next_node.ensures.hand)
 
 pub returns-in-Err-clause-full : goal.returns-in-Err-clause-full
-returns-in-Err-clause-full g c = too_many_is_full g.N.Naming.rules c.work_on_node.new.self c.refuse.new.self c.in-Err.stop c.refuse.ensures c.in-Err.ensures.full c.error.result c.error.ensures
+returns-in-Err-clause-full g c = too_many_is_full g.N.Naming.rules c.work_on_node.new.self c.note_stop.new.self c.in-Err.stop c.note_stop.ensures c.in-Err.ensures.full c.error.result c.error.ensures
 
 pub returns-in-Err-clause-left : goal.returns-in-Err-clause-left
-returns-in-Err-clause-left g c = left_refused g.N.Naming.rules c.work_on_node.new.self c.refuse.new.self c.in-Err.stop c.refuse.ensures c.in-Err.ensures.full
+returns-in-Err-clause-left g c = left_refused g.N.Naming.rules c.work_on_node.new.self c.note_stop.new.self c.in-Err.stop c.note_stop.ensures c.in-Err.ensures.full

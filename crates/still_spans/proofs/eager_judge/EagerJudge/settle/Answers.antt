@@ -4,8 +4,8 @@ use Rattle.still_spans.proofs.Changing.{changed, ended, has_time}
 use Rattle.still_spans.proofs.Descent.{itself}
 use Rattle.still_spans.proofs.eager_judge.EagerJudge.settle.Goals as goal
 
-pub settled-requires-clause-time : goal.settled-requires-clause-time
-settled-requires-clause-time g c κs lives =
+pub settle_leaf-requires-clause-time : goal.settle_leaf-requires-clause-time
+settle_leaf-requires-clause-time g c κs lives =
     has_time (settled c.args.self.now.search.now c.args.root) c.loop-leaf.leaf-index c.args.leaves.now c.loop-leaf.leaves c.loop-leaf.invariant.settled _ c.loop-leaf-test.true c.requires.time
 
 pub loop-leaf-init : goal.loop-leaf-init
@@ -17,9 +17,9 @@ loop-leaf-init g c = record {
 
 pub loop-leaf-preserved : goal.loop-leaf-preserved
 loop-leaf-preserved g c = record {
-  settled = changed (settled c.args.self.now.search.now c.args.root) c.loop-leaf.leaf-index c.args.leaves.now c.loop-leaf.leaves c.loop-leaf.invariant.settled _ _ c.loop-leaf-test.true c.settled.ensures.leaf;
-  valid = c.settled.ensures.valid;
-  below = c.settled.ensures.below;
+  settled = changed (settled c.args.self.now.search.now c.args.root) c.loop-leaf.leaf-index c.args.leaves.now c.loop-leaf.leaves c.loop-leaf.invariant.settled _ _ c.loop-leaf-test.true c.settle_leaf.ensures.leaf;
+  valid = c.settle_leaf.ensures.valid;
+  below = c.settle_leaf.ensures.below;
 }
 
 pub returns : goal.returns

@@ -1,14 +1,10 @@
-use Rattle.std.proofs.Common.{sym, subst}
-use Rattle.spec_trees.specs.declared.tree.Node.{Node}
-use Rattle.spec_trees.specs.Tree.{Cuts, IsValid}
 use Rattle.spec_stills.specs.Eager.{eager_rules}
 use Rattle.spec_stills.proofs.Sound.{eager_may, valid_fine}
+use Rattle.still_spans.proofs.Cutting.{given_out}
 use Rattle.still_spans.proofs.hastening.EagerJudgeJudge.cut.Goals as goal
 
 pub parts-requires-clause-valid : goal.parts-requires-clause-valid
-parts-requires-clause-valid g c =
-    let j = c.args.self.now in
-    valid_fine j.search.now j.stills.now c.args.node c.requires.valid
+parts-requires-clause-valid g c = valid_fine c.args.self.now.search.now c.args.self.now.stills.now c.args.node c.requires.valid
 
 pub parts-requires-clause-may : goal.parts-requires-clause-may
 parts-requires-clause-may g c =
@@ -16,16 +12,8 @@ parts-requires-clause-may g c =
     let s = j.search.now in
     eager_may s j.stills.now c.args.node c.is_search.ensures (valid_fine s j.stills.now c.args.node c.requires.valid) c.requires.split
 
-pub returns-clause-cuts : goal.returns-clause-cuts
-returns-clause-cuts g c =
-    subst (λ (both : Node × Node). Cuts c.args.node both.0 both.1) (sym c.parts.ensures) (c.args.self.now.sound.cut c.args.node c.requires.valid c.requires.split).cuts
-
-pub returns-clause-left : goal.returns-clause-left
-returns-clause-left g c =
+pub returns : goal.returns
+returns g c =
     let j = c.args.self.now in
-    subst (λ (both : Node × Node). IsValid (eager_rules j.search.now j.stills.now) both.0) (sym c.parts.ensures) (j.sound.cut c.args.node c.requires.valid c.requires.split).left
-
-pub returns-clause-right : goal.returns-clause-right
-returns-clause-right g c =
-    let j = c.args.self.now in
-    subst (λ (both : Node × Node). IsValid (eager_rules j.search.now j.stills.now) both.1) (sym c.parts.ensures) (j.sound.cut c.args.node c.requires.valid c.requires.split).right
+    let cut = given_out (eager_rules j.search.now j.stills.now) c.args.node c.parts.result j.sound c.requires.valid c.requires.split c.parts.ensures in
+    record { parts = cut.parts; cuts = cut.cuts; left = cut.left; right = cut.right }

@@ -1,9 +1,7 @@
-use Rattle.std.proofs.Common.{◌∙◌, ap, sym}
-use Rattle.spec_searches.specs.Search.{verdict_of}
+use Rattle.std.proofs.Common.{◌∙◌}
 use Rattle.spec_stills.proofs.Sound.{valid_fine}
-use Rattle.still_spans.specs.declared.standing.Standing.{Standing}
-use Rattle.still_spans.specs.Stands.{verdict_at}
-use Rattle.still_spans.proofs.Eager.{by_standing}
+use Rattle.still_spans.specs.declared.standing.Standing.TheVariants.{Begun, Open, Served}
+use Rattle.still_spans.proofs.Eager.{stands_as}
 use Rattle.still_spans.proofs.hastening.EagerJudgeJudge.judge.Goals as goal
 
 pub judge-requires : goal.judge-requires
@@ -12,20 +10,12 @@ judge-requires g c =
     j.valid c.args.node (valid_fine j.search.now j.stills.now c.args.node c.requires)
 
 pub returns-in-Served : goal.returns-in-Served
-returns-in-Served g c =
-    let j = c.args.self.now in
-    let v = verdict_of j.search.now c.args.node in
-    sym (by_standing j.search.now j.stills.now c.args.node ∙ ap (λ (x : Standing). verdict_at x v) (sym c.standing.ensures ∙ c.in-Served.is))
+returns-in-Served g c = stands_as c.args.self.now.search.now c.args.self.now.stills.now c.args.node c.node_standing.result Served c.node_standing.ensures c.in-Served.is
 
 pub returns-in-Begun : goal.returns-in-Begun
-returns-in-Begun g c =
-    let j = c.args.self.now in
-    let v = verdict_of j.search.now c.args.node in
-    sym (by_standing j.search.now j.stills.now c.args.node ∙ ap (λ (x : Standing). verdict_at x v) (sym c.standing.ensures ∙ c.in-Begun.is))
+returns-in-Begun g c = stands_as c.args.self.now.search.now c.args.self.now.stills.now c.args.node c.node_standing.result Begun c.node_standing.ensures c.in-Begun.is
 
 pub returns-in-Open : goal.returns-in-Open
 returns-in-Open g c =
     let j = c.args.self.now in
-    let v = verdict_of j.search.now c.args.node in
-    c.judge.ensures ∙ j.verdicts c.args.node
-    ∙ sym (by_standing j.search.now j.stills.now c.args.node ∙ ap (λ (x : Standing). verdict_at x v) (sym c.standing.ensures ∙ c.in-Open.is))
+    c.judge.ensures ∙ j.verdicts c.args.node ∙ stands_as j.search.now j.stills.now c.args.node c.node_standing.result Open c.node_standing.ensures c.in-Open.is

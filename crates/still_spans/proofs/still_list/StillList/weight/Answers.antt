@@ -5,8 +5,8 @@ use Rattle.still_spans.proofs.still_list.StillList.weight.Goals as goal
 
 pub returns-in-Some-clause-weight : goal.returns-in-Some-clause-weight
 returns-in-Some-clause-weight c =
-    c.leaves_of.ensures.leaves ∙ ap (λ (found : Option StillSpan). weight_by found c.args.leaf.node) (sym c.in-Some.is ∙ c.serving.ensures.span)
+    c.max_leaf_count.ensures.leaves ∙ ap (λ (found : Option StillSpan). weight_by found c.args.leaf.node) (sym c.in-Some.is ∙ c.serving_span.ensures.span)
 
 pub returns-in-None-clause-weight : goal.returns-in-None-clause-weight
 returns-in-None-clause-weight c =
-    ap (λ (found : Option StillSpan). weight_by found c.args.leaf.node) (sym c.in-None.is ∙ c.serving.ensures.span)
+    ap (λ (found : Option StillSpan). weight_by found c.args.leaf.node) (sym c.in-None.is ∙ c.serving_span.ensures.span)

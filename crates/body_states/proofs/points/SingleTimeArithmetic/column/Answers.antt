@@ -1,0 +1,18 @@
+use Rattle.std.proofs.Common.{◌∙◌, ap}
+use Rattle.spec_intervals.specs.Enclosure.{Enclosure}
+use Rattle.spec_ephemeris.specs.Granules.{series_at}
+use Rattle.spec_bodies.specs.Views.{value_interval}
+use Rattle.spec_steps.proofs.Parts.{column_seen, seen_readable}
+use Rattle.body_states.proofs.points.SingleTimeArithmetic.column.Goals as goal
+
+pub column_enclosure-requires : goal.column_enclosure-requires
+column_enclosure-requires c =
+    let s = c.args.self.now in
+    let readable = seen_readable s.states.now c.args.number c.args.axis c.requires.ready.fits.view (column_seen _ c.args.quantity c.args.number c.args.axis c.requires.part) in
+    record { fits = c.requires.ready.fits; entries = c.written_entries.ensures; usable = readable.usable; axis = readable.along }
+
+pub returns : goal.returns
+returns c =
+    let s = c.args.self.now in
+    ap (λ (e : Enclosure). e.mid) c.column_enclosure.ensures
+    ∙ λ i. value_interval c.args.quantity (series_at s.states.now.ephemeris c.args.number c.args.axis s.times.now.first) s.times.now.first (c.requires.ready.alone i)

@@ -1,5 +1,0 @@
-use Rattle.de_text.proofs.EightDigits.{word_is}
-use Rattle.de_text.proofs.eights.first_word.Goals as goal
-
-pub returns : goal.returns
-returns c = word_is c.args.text.now c.requires c.type_inv.text

@@ -1,7 +1,0 @@
-use Rattle.std.proofs.Common.{◌-◌, ◌*◌, ◌^◌, ℕ, arith}
-use Rattle.std.proofs.lemmas.List.FromFn.{get_or-map-range_with_len}
-use Rattle.eph_model.proofs.quick.divider.Goals as goal
-
-pub returns : goal.returns
-returns c =
-    get_or-map-range_with_len (λ (k : ℕ). 5 ^ k * 2 ^ (k - 24)) 0 27 c.args.places c.args.places 0 (omega (arith, c.requires)) (omega arith)

@@ -1,7 +1,0 @@
-use Rattle.std.proofs.Common.{arith}
-use Rattle.event_models.proofs.filling.sized_entry.Goals as goal
-
-pub returns-clause-entry : goal.returns-clause-entry
-returns-clause-entry c = λ p q x argument arguments line double.
-    let is = c.greatest.ensures.equals in
-    c.sized.ensures.sized c.args.kind p q x c.args.k (omega (arith, is)) argument arguments

@@ -1,0 +1,5 @@
+use Rattle.event_models.specs.Granules.{AreRooms}
+use Rattle.event_models.proofs.rooms.RowRooms.add_rows.Given as goal
+
+abbrev pub invariant-loop-place : goal.invariant-loop-place
+invariant-loop-place l = AreRooms l.quantity l.times.first l.times.last l.self

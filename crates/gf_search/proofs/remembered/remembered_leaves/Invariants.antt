@@ -1,4 +1,0 @@
-use Rattle.gf_search.proofs.remembered.remembered_leaves.Given as goal
-
-abbrev pub ghosts-named_leaves : goal.ghosts-named_leaves
-ghosts-named_leaves g a = record { search = a.search.now }

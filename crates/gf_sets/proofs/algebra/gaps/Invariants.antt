@@ -1,6 +1,0 @@
-use Rattle.std.proofs.Common.{drop}
-use Rattle.gf_sets.specs.Complements.{IsLeftOut}
-use Rattle.gf_sets.proofs.algebra.gaps.Given as goal
-
-abbrev pub invariant-loop-first : goal.invariant-loop-first
-invariant-loop-first l = IsLeftOut l.spans (drop l.first-index l.spans) l.from l.to l.next l.out

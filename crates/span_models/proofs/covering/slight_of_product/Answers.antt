@@ -1,6 +1,0 @@
-use Rattle.std.proofs.Common.{◌*◌}
-use Rattle.span_models.proofs.Widened.{product_units}
-use Rattle.span_models.proofs.covering.slight_of_product.Goals as goal
-
-pub returns-then-units : goal.returns-then-units
-returns-then-units c = product_units (c.args.m * c.args.n) c.args.gap c.min.result c.min.ensures

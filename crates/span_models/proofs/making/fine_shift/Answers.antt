@@ -1,6 +1,0 @@
-use Rattle.span_models.proofs.Lifting.{lead_below}
-use Rattle.std.proofs.Common.{arith}
-use Rattle.span_models.proofs.making.fine_shift.Goals as goal
-
-pub overflow_sub-result : goal.overflow_sub-result
-overflow_sub-result c = lead_below _ c.ilog2.result (omega arith) c.ilog2.ensures.power_le

@@ -1,0 +1,8 @@
+use Rattle.std.proofs.Common.{refl}
+use Rattle.spec_certificates.specs.Checks.{checked, leaves_from}
+use Rattle.spec_certificates.specs.Places.{waiting_after, waiting_within}
+use Rattle.spec_certificates.proofs.examples.first_lines_of_other_requests_are_refused.Goals as goal
+
+pub returns : goal.returns
+unfolding checked leaves_from waiting_after waiting_within
+returns c = record { form = refl; request = refl; longer = refl; none = refl }

@@ -1,7 +1,0 @@
-use Rattle.std.proofs.Common.{refl}
-use Rattle.spec_chebyshev.specs.Rows.{argument_of}
-use Rattle.spec_chebyshev.proofs.examples.arguments.Goals as goal
-
-pub returns : goal.returns
-unfolding argument_of
-returns c = record { half = refl; minus_third_to_third = refl }

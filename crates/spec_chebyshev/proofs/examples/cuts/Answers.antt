@@ -1,7 +1,0 @@
-use Rattle.std.proofs.Common.{refl}
-use Rattle.spec_chebyshev.specs.Rows.{next, t_row, u_row}
-use Rattle.spec_chebyshev.proofs.examples.cuts.Goals as goal
-
-pub returns : goal.returns
-unfolding next t_row u_row
-returns c = record { t_2 = refl; u_2 = refl }

@@ -1,7 +1,0 @@
-use Rattle.std.proofs.Common.{refl}
-use Rattle.spec_chebyshev.specs.Rows.{next, t_row}
-use Rattle.spec_chebyshev.proofs.examples.first_kind.Goals as goal
-
-pub returns : goal.returns
-unfolding next t_row
-returns c = record { t_0 = refl; t_1 = refl; t_2 = refl; t_3 = refl }

@@ -1,5 +1,0 @@
-use Rattle.spec_chebyshev.proofs.Polynomials.{circle as on_circle}
-use Rattle.spec_chebyshev.proofs.laws.circle.Goals as goal
-
-pub returns : goal.returns
-returns c = on_circle

@@ -1,5 +1,0 @@
-use Rattle.std.proofs.Common.{refl}
-use Rattle.spec_chebyshev.proofs.laws.difference_recurrences.Goals as goal
-
-pub returns : goal.returns
-returns c = record { first_kind = λ a u l k. refl; second_kind = λ a u l k. refl }

@@ -1,5 +1,0 @@
-use Rattle.spec_chebyshev.proofs.RowEnds.{EndsWithin-t, EndsWithin-u, EndsWithin-q, EndsWithin-r}
-use Rattle.spec_chebyshev.proofs.laws.rows_within.Goals as goal
-
-pub returns : goal.returns
-returns c = record { t = EndsWithin-t; u = EndsWithin-u; q = EndsWithin-q; r = EndsWithin-r }

@@ -1,7 +1,0 @@
-use Rattle.std.proofs.Common.{refl}
-use Rattle.spec_ephemeris.specs.Borders.{nearest_of_column, nearest_border}
-use Rattle.spec_ephemeris.proofs.examples.borders_of_de405.Goals as goal
-
-pub returns : goal.returns
-unfolding nearest_of_column nearest_border
-returns c = record { smaller_of_two = refl; nearer = refl; of_one = refl; of_both = refl; of_none = refl }

@@ -1,7 +1,0 @@
-use Rattle.std.proofs.Common.{refl}
-use Rattle.spec_ephemeris.specs.Borders.{nearest_of_column, nearest_border}
-use Rattle.spec_ephemeris.proofs.examples.times_in_ticks.Goals as goal
-
-pub returns-clause-border : goal.returns-clause-border
-unfolding nearest_of_column nearest_border
-returns-clause-border c = refl

@@ -1,5 +1,0 @@
-use Rattle.spec_expressions.proofs.Clock.{AllFractions-clock, IsEnclosure-clock, AllWithin-clock}
-use Rattle.spec_expressions.proofs.expression_examples.clocks.Goals as goal
-
-pub returns : goal.returns
-returns c = record { numbers = AllFractions-clock; holds = IsEnclosure-clock; within = AllWithin-clock }

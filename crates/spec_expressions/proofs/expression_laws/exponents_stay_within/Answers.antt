@@ -1,5 +1,0 @@
-use Rattle.spec_expressions.proofs.Reach.{AllWithin-of}
-use Rattle.spec_expressions.proofs.expression_laws.exponents_stay_within.Goals as goal
-
-pub returns : goal.returns
-returns c = AllWithin-of

@@ -1,6 +1,0 @@
-use Rattle.spec_intervals.proofs.Centred.{Holds-centred}
-use Rattle.spec_intervals.proofs.Enclosed.{IsEnclosure-parts}
-use Rattle.spec_intervals.proofs.enclosures.parts_are_enclosed.Goals as goal
-
-pub returns : goal.returns
-returns c = record { centred = Holds-centred; enclosure = IsEnclosure-parts }

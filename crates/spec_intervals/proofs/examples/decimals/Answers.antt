@@ -1,7 +1,0 @@
-use Rattle.std.proofs.Common.{refl}
-use Rattle.spec_intervals.specs.Interval.{from_decimal}
-use Rattle.spec_intervals.proofs.examples.decimals.Goals as goal
-
-pub returns : goal.returns
-unfolding from_decimal
-returns c = record { minus_tenth = refl; whole = refl; zero = refl; half = refl }

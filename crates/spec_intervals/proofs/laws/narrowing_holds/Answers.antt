@@ -1,6 +1,0 @@
-use Rattle.spec_intervals.proofs.Holding.{Holds-narrowed}
-use Rattle.spec_intervals.proofs.Narrow.{IsIval-narrow}
-use Rattle.spec_intervals.proofs.laws.narrowing_holds.Goals as goal
-
-pub returns : goal.returns
-returns c = record { holds = Holds-narrowed; is_ival = IsIval-narrow }

@@ -1,5 +1,0 @@
-use Rattle.spec_intervals.proofs.Squares.{Holds-signed_square}
-use Rattle.spec_intervals.proofs.laws.signed_square_holds.Goals as goal
-
-pub returns : goal.returns
-returns c = Holds-signed_square

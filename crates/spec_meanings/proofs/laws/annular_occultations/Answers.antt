@@ -1,5 +1,0 @@
-use Rattle.spec_meanings.proofs.DiscMeanings.{annular_means}
-use Rattle.spec_meanings.proofs.laws.annular_occultations.Goals as goal
-
-pub returns : goal.returns
-returns c = annular_means

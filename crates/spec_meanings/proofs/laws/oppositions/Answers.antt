@@ -1,8 +1,0 @@
-use Rattle.spec_meanings.proofs.Meetings.{opposition_means, opposition_side_means}
-use Rattle.spec_meanings.proofs.laws.oppositions.Goals as goal
-
-pub returns-clause-meet : goal.returns-clause-meet
-returns-clause-meet c = opposition_means
-
-pub returns-clause-side : goal.returns-clause-side
-returns-clause-side c = opposition_side_means

@@ -1,5 +1,0 @@
-use Rattle.spec_meanings.proofs.Distances.{separation_means}
-use Rattle.spec_meanings.proofs.laws.separations.Goals as goal
-
-pub returns : goal.returns
-returns c = separation_means

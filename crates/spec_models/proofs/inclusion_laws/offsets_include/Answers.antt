@@ -1,5 +1,0 @@
-use Rattle.spec_models.proofs.Inclusions.{Includes-offsets}
-use Rattle.spec_models.proofs.inclusion_laws.offsets_include.Goals as goal
-
-pub returns : goal.returns
-returns c = Includes-offsets

@@ -1,6 +1,0 @@
-use Rattle.std.proofs.Common.{rules}
-use Rattle.spec_models.proofs.Curvature.{Within-tangent, near-curved, coefficient-derivative, curvature-take}
-use Rattle.spec_models.proofs.model_laws.curvatures.Goals as goal
-
-pub returns : goal.returns
-returns c = search (rules, Within-tangent, near-curved, coefficient-derivative, curvature-take)

@@ -1,5 +1,0 @@
-use Rattle.spec_models.proofs.Curvature.{near-steeper}
-use Rattle.spec_models.proofs.model_laws.derivatives.Goals as goal
-
-pub returns : goal.returns
-returns c = near-steeper

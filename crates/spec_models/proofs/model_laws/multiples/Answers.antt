@@ -1,5 +1,0 @@
-use Rattle.spec_models.proofs.Made.{near-multiplied, near-greater, near-lesser}
-use Rattle.spec_models.proofs.model_laws.multiples.Goals as goal
-
-pub returns : goal.returns
-returns c = record { whole = near-multiplied; greater = near-greater; lesser = near-lesser }

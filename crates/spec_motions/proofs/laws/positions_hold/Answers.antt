@@ -1,5 +1,0 @@
-use Rattle.spec_motions.proofs.HeldSpans.{Holds-position}
-use Rattle.spec_motions.proofs.laws.positions_hold.Goals as goal
-
-pub returns : goal.returns
-returns c = λ s a b is span t from to. Holds-position s a b t is span from to

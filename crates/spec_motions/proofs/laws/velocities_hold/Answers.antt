@@ -1,5 +1,0 @@
-use Rattle.spec_motions.proofs.HeldChanges.{Holds-velocity}
-use Rattle.spec_motions.proofs.laws.velocities_hold.Goals as goal
-
-pub returns : goal.returns
-returns c = λ s a b is span t from to. Holds-velocity s a b is span t from to

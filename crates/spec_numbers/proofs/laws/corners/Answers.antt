@@ -1,5 +1,0 @@
-use Rattle.spec_numbers.proofs.Corners.{corner_low}
-use Rattle.spec_numbers.proofs.laws.corners.Goals as goal
-
-pub returns : goal.returns
-returns c = corner_low

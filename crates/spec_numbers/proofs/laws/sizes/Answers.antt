@@ -1,5 +1,0 @@
-use Rattle.spec_numbers.proofs.Sizes.{scaled_size}
-use Rattle.spec_numbers.proofs.laws.sizes.Goals as goal
-
-pub returns : goal.returns
-returns c = scaled_size

@@ -1,8 +1,0 @@
-use Rattle.std.proofs.Common.{refl}
-use Rattle.spec_faults.specs.Faults.{fault_kind}
-use Rattle.spec_output.specs.Messages.{title}
-use Rattle.spec_output.proofs.laws.faults_are_named.Goals as goal
-
-pub returns : goal.returns
-unfolding title fault_kind
-returns c = record { name = refl; detail = refl; words = refl; no_row = refl }

@@ -1,0 +1,7 @@
+use Rattle.std.proofs.Common.{refl}
+use Rattle.spec_requests.proofs.OnLiterals.{requests_on_literals}
+use Rattle.spec_requests.proofs.request_examples.the_first_bad_option_of_find_is_reported.Goals as goal
+
+pub returns : goal.returns
+unfolding requests_on_literals
+returns c = record { first = refl; second = refl; date = refl; workers = refl; tick = refl; direction = refl; fraction = refl; empty = refl }

@@ -1,8 +1,0 @@
-use Rattle.spec_scalars.proofs.Passings.{falls, rises}
-use Rattle.spec_scalars.proofs.laws.events_are_passings.Goals as goal
-
-pub returns-clause-rises : goal.returns-clause-rises
-returns-clause-rises c = rises
-
-pub returns-clause-falls : goal.returns-clause-falls
-returns-clause-falls c = falls

@@ -1,5 +1,0 @@
-use Rattle.std.proofs.Common.{refl}
-use Rattle.spec_spans.proofs.examples.windows_joined.Goals as goal
-
-pub returns : goal.returns
-returns c = record { one = refl; apart = refl; certain = refl; none = refl }

@@ -1,7 +1,0 @@
-use Rattle.std.proofs.Common.{refl}
-use Rattle.spec_trees.specs.Tree.{leaves_within, leaves}
-use Rattle.spec_trees.proofs.examples.leaves_of_three_units.Goals as goal
-
-pub returns : goal.returns
-unfolding leaves leaves_within
-returns c = refl

@@ -1,4 +1,0 @@
-use Rattle.still_spans.proofs.halves.Walk.+add_halves.Given as goal
-
-abbrev pub decreases-add_halves : goal.decreases-add_halves
-decreases-add_halves l = l.depth

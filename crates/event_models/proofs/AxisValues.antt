@@ -21,7 +21,7 @@ use Rattle.spec_bodies.specs.Views.{exact_value, value_interval}
 use Rattle.spec_bodies.proofs.Series.{Holds-value, IsFraction-value}
 use Rattle.spec_models.specs.Ends.{IsOrdered}
 use Rattle.spec_models.specs.Models.{Covers, Model, bulk, sizes, widened}
-use Rattle.spec_covers.specs.Series.{argument_model, argument_unit, double_unit, middle_argument, of_entry, sums, value_sum}
+use Rattle.spec_covers.specs.Series.{argument_model, middle_argument, of_entry, sums, value_sum}
 use Rattle.spec_chebyshev.specs.Rows.{u_unit}
 use Rattle.spec_motions.specs.Enclosures.{sum_exponent}
 use Rattle.spec_covers.specs.Combining.{IsUpto, ScalesTo, scaled_loss}
@@ -39,9 +39,11 @@ use Rattle.event_models.specs.declared.row_room.RowRoom.{RowRoom}
 use Rattle.event_models.specs.declared.rows.RowModel.{RowModel}
 use Rattle.event_models.specs.declared.sums.Wide.{Wide}
 use Rattle.event_models.specs.Covered.{argument}
-use Rattle.event_models.specs.Rows.{AreEntries, of_line}
+use Rattle.event_models.specs.Rows.{AreEntries}
 use Rattle.event_models.specs.Sums.{IsSumOf, of_sum}
-use Rattle.event_models.specs.Granules.{AreMade, IsAxisModel, IsGranuleOver, IsServed, IsSumModel, IsValueOf, first_place, line_over, row_over, row_unit}
+use Rattle.event_models.specs.Factors.{IsFactor}
+use Rattle.event_models.specs.Made.{AreMade, row_over, row_unit}
+use Rattle.event_models.specs.Granules.{IsAxisModel, IsGranuleOver, IsServed, IsSumModel, IsValueOf, first_place, line_over}
 
 -- ---- what reaches a model covers with it
 reached : (m n : Model) (p q : ℤ) (x : Interval) → IsArgument p q → Reaches m n → Covers m p q x → Covers n p q x
@@ -86,13 +88,13 @@ module _ (quantity : Quantity) (c d : ℤ) (g : Granule) (axis : ℕ) (later : c
   }
 
   -- the sum with the entries of a room covers that of the series at each time
-  module _ (room : RowRoom) (made : AreMade quantity c d room) (served : IsServed g room) (pairs : List Rounded) (terms_are : map term_of pairs ≡ coefficients_of (series_of g axis)) (count : length pairs ≡ g.n)
+  module _ (room : RowRoom) (served : IsServed quantity c d g room) (pairs : List Rounded) (terms_are : map term_of pairs ≡ coefficients_of (series_of g axis)) (count : length pairs ≡ g.n)
       (wide : Wide) (m : Model) (sum : IsSumOf pairs room.rows (first_place quantity) wide) (reaches : Reaches (of_sum wide) m)
       (is_argument : (t : ℤ) → c ≤ℤ t → t ≤ℤ d → IsArgument (argument c d t) (d -ℤ c))
       (are_arguments : (t : ℤ) → c ≤ℤ t → t ≤ℤ d → IsArguments (arguments (series_of g axis) t t))
       (line : (unit : ℕ) (t : ℤ) → c ≤ℤ t → t ≤ℤ d → Covers (argument_model unit (middle_argument (series_of g axis) c d) (d -ℤ c) (series_of g axis).duration) (argument c d t) (d -ℤ c) (of_entry unit (arguments (series_of g axis) t t))) where
-    same_line : line_over c d g.start (unsigned_abs g.seconds) ≡ line_over c d room.start (unsigned_abs room.seconds)
-    same_line = λ i. line_over c d (served.start i) (unsigned_abs (served.seconds i))
+    made : AreMade quantity (line_over c d g.start (unsigned_abs g.seconds)) room.entries room.rows
+    made = subst (λ l. AreMade quantity l room.entries room.rows) served.line (subst (λ own. AreMade own room.line room.entries room.rows) served.same room.made)
 
     coefficients_are : map term_of (drop (first_place quantity) pairs) ≡ drop (first_place quantity) (coefficients_of (series_of g axis))
     coefficients_are = sym (drop-map term_of (first_place quantity) pairs) ∙ ap (drop (first_place quantity)) terms_are
@@ -102,9 +104,7 @@ module _ (quantity : Quantity) (c d : ℤ) (g : Granule) (axis : ℕ) (later : c
         let few = served.few in
         let x = arguments (series_of g axis) t t in
         fewer (row_unit quantity) (argument c d t) (d -ℤ c) (row_over quantity x) (length pairs) room.entries room.rows (omega (arith, few, count))
-        (made.covers (argument c d t) (d -ℤ c) x (is_argument t after before) (are_arguments t after before)
-        (subst (λ l. Covers (of_line 60 l) (argument c d t) (d -ℤ c) (of_entry argument_unit x)) same_line (line 60 t after before))
-        (subst (λ l. Covers (of_line 59 l) (argument c d t) (d -ℤ c) (of_entry double_unit x)) same_line (line 59 t after before)))
+        (made.covers (argument c d t) (d -ℤ c) x (is_argument t after before) (are_arguments t after before) (line 60 t after before) (line 59 t after before))
 
     pub sum_made : IsSumModel quantity c d (series_of g axis) m
     sum_made t after before =
@@ -143,11 +143,14 @@ velocity_made m product (Some k) units length scales upto made s is same = λ p 
     (Covers-velocity units p q argument s t m product is (subst (λ l. ScalesTo l m product) (sym same) scales) (subst (λ l. IsUpto units product (scaled_loss (sum_exponent u_unit) m l)) (sym same) upto) covers)
 
 -- 2 / length times the numbers near m
-pub scaled_made : (m factor : Model) (x : Interval) (r : Option Model) (length : ℕ) → 0 < length → ((p q : ℤ) → IsArgument p q → Covers factor p q x) → Holds x (fraction (pos 2) length)
-    → IfSome r (λ k. IsProductOf k m factor) → IfSome r (ScalesTo length m)
-scaled_made m factor x None length positive covers holds made = made
-scaled_made m factor x (Some k) length positive covers holds made =
-    ScalesTo-product m factor k length positive (λ p q r t is near other. made p q r t is near other) (λ p q is. near_held factor p q is x (fraction (pos 2) length) positive (covers p q is) holds)
+pub scaled_made : (m factor : Model) (r : Option Model) (length : ℕ) → 0 < length → IsFactor length factor → IfSome r (λ k. IsProductOf k m factor) → IfSome r (ScalesTo length m)
+scaled_made m factor None length positive near made = made
+scaled_made m factor (Some k) length positive near made = ScalesTo-product m factor k length positive (λ p q r t is near other. made p q r t is near other) near
+
+-- what covers an interval that holds 2 / length is a model of it
+pub factor_made : (x : Interval) (r : Option Model) (length : ℕ) → 0 < length → IfSome r (λ m. (p q : ℤ) → IsArgument p q → Covers m p q x) → Holds x (fraction (pos 2) length) → IfSome r (IsFactor length)
+factor_made x None length positive covers holds = covers
+factor_made x (Some m) length positive covers holds = λ p q is. near_held m p q is x (fraction (pos 2) length) positive (covers p q is) holds
 
 pub one_scaled : (x : Interval) (length : ℕ) → ((r : Fraction) → Holds (interval (pos (2 ^ 120)) (pos (2 ^ 120)) (neg_ℤ (pos 120))) r → Holds x (fraction_scale r length)) → Holds x (fraction (pos 2) length)
 one_scaled x length holds =
@@ -155,14 +158,14 @@ one_scaled x length holds =
     subst (λ n. Holds x (fraction (pos 2) n)) same (holds (fraction (pos 1) 1) (record { low = omega (arith, ints); high = omega (arith, ints) }))
 
 -- of what is made, if it is
-pub sums_made : (quantity : Quantity) (c d : ℤ) (g : Granule) (axis : ℕ) (room : RowRoom) (later : c <ℤ d) (over : IsGranuleOver c d g) (three : axis < 3) (made : AreMade quantity c d room) (served : IsServed g room)
+pub sums_made : (quantity : Quantity) (c d : ℤ) (g : Granule) (axis : ℕ) (room : RowRoom) (later : c <ℤ d) (over : IsGranuleOver c d g) (three : axis < 3) (served : IsServed quantity c d g room)
     (pairs : List Rounded) (terms_are : map term_of pairs ≡ coefficients_of (series_of g axis)) (count : length pairs ≡ g.n)
     (wide : Wide) (sum : IsSumOf pairs room.rows (first_place quantity) wide) (r : Option Model) → IfSome r (Reaches (of_sum wide)) → IfSome r (IsSumModel quantity c d (series_of g axis))
-sums_made quantity c d g axis room later over three made served pairs terms_are count wide sum None reaches = reaches
-sums_made quantity c d g axis room later over three made served pairs terms_are count wide sum (Some m) reaches =
+sums_made quantity c d g axis room later over three served pairs terms_are count wide sum None reaches = reaches
+sums_made quantity c d g axis room later over three served pairs terms_are count wide sum (Some m) reaches =
     let series = is_series quantity c d g axis later over three in
     let span = is_span quantity c d g axis later over three in
-    sum_made quantity c d g axis later over three room made served pairs terms_are count wide m sum reaches
+    sum_made quantity c d g axis later over three room served pairs terms_are count wide m sum reaches
     (λ t after before. is_argument c d t later after before)
     (λ t after before. IsArguments-at (series_of g axis) c d t series span after before)
     (λ unit t after before. Covers-arguments (series_of g axis) c d t later after before unit series.long)

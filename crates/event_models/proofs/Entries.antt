@@ -1,8 +1,8 @@
 -- Lists that are written entry by entry.
 use Rattle.std.proofs.Common.{◌≡◌, ℕ, suc, ◌+◌, ◌<◌, ◌≤◌, ◌⊎◌, inl, inr, arith, sym, subst, List, length, slice_index_or, slice_set, take}
 use Rattle.std.specs.Prelude.{All}
-use Rattle.std.proofs.lemmas.List.{get_or-set_same, get_or-set_other, get_or-take, length-take-le, take_more_set}
-use Rattle.std.proofs.lemmas.List.Elements.{All-get_or, All-push}
+use Rattle.std.proofs.lemmas.List.{get_or-set_same, get_or-set_other, take_more_set}
+use Rattle.std.proofs.lemmas.List.Elements.{All-push}
 use Rattle.std.proofs.lemmas.Bool.{cases_lt}
 
 module _ {A : Type 0} (none : A) (P : ℕ → A → Type 0) (n : ℕ) (xs : List A) (made : A) where
@@ -33,8 +33,5 @@ module _ {A : Type 0} (none : A) (P : ℕ → A → Type 0) (n : ℕ) (xs : List
 
 -- ---- lists of which the first entries are made
 module _ {A : Type 0} (P : A → Type 0) (n : ℕ) (xs : List A) (made : All P (take n xs)) where
-  pub made_at : n ≤ length xs → (k : ℕ) (d : A) → k < n → P (slice_index_or xs k d)
-  made_at few k d below = subst P (get_or-take n xs k d below) (All-get_or P (take n xs) k d (rw (length-take-le n xs few) below) made)
-
   pub one_more_made : n < length xs → (x : A) → P x → All P (take (n + 1) (slice_set xs n x))
   one_more_made below x is = rw (take_more_set xs n x below) (All-push P (take n xs) x made is)

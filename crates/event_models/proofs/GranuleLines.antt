@@ -16,7 +16,7 @@ module _ (first last start seconds : ℤ) (long : pos 1 ≤ℤ seconds) (short :
   last_kept : kept last ≡ last
   last_kept = keeps last (omega (arith, ints, short, near, from, ordered, upto))
 
-  start_kept : kept start ≡ start
+  pub start_kept : kept start ≡ start
   start_kept = keeps start (omega (arith, near))
 
   pub seconds_kept : kept seconds ≡ seconds

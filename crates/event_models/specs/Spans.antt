@@ -3,7 +3,6 @@ use Rattle.std.specs.Prelude.{◌≡◌, ℕ, ℤ, ◌≤ℤ◌, ◌-ℤ◌, Opt
 use Rattle.spec_intervals.specs.Interval.{Interval}
 use Rattle.spec_expressions.specs.Term.{IsFormula, Term}
 use Rattle.spec_models.specs.Models.{Covers, Model}
-use Rattle.spec_bodies.specs.declared.quantity.Quantity.TheVariants.{Position, Velocity}
 use Rattle.spec_bodies.specs.Views.{Fits, View, state_enclosure}
 use Rattle.spec_searches.specs.Search.{enclosure_over}
 use Rattle.spec_steps.specs.ColumnTerms.{ColumnTerm, of_term, sight_of}
@@ -11,14 +10,14 @@ use Rattle.spec_steps.specs.Meanings.{point_meant}
 use Rattle.column_steps.specs.Listed.{IsMadeAt, Listed}
 use Rattle.event_models.specs.declared.spans.Span.{Span}
 use Rattle.event_models.specs.Covered.{IsIfMade, argument}
-use Rattle.event_models.specs.Granules.{AreRooms}
+use Rattle.event_models.specs.Granules.{AreLines}
 
--- between its times no granule begins, and the rows are those of positions and of velocities
+-- between its times no granule begins, and the lines of granules are those over these times
 pub record IsSpanSeen (s : Span) : Type 0 where
   pub same : s.states.now.ephemeris ≡ s.ephemeris.now
   pub fits : Fits s.states.now s.times.first s.times.last
-  pub position : AreRooms Position s.times.first s.times.last s.position.now
-  pub velocity : AreRooms Velocity s.times.first s.times.last s.velocity.now
+  pub position : AreLines s.times.first s.times.last s.position.now
+  pub velocity : AreLines s.times.first s.times.last s.velocity.now
 
 -- the interval of a term at each time
 abbrev pub term_at : Span → ColumnTerm → ℤ → Interval

@@ -8,7 +8,10 @@
 mod by_steps;
 mod filling;
 mod filling_slopes;
+mod granule_row;
 mod granules;
+mod kept_rows;
+mod length_factors;
 mod lines;
 mod multiples;
 mod rooms;

@@ -1,63 +1,72 @@
-// Room for the row of a quantity, which serves all granules that begin and end together.
-ghost use Rattle.std.specs.Prelude.{◌≡◌, IsTrue};
-ghost use Rattle.event_models.specs.Granules.{AreMade, IsGranuleOver, IsServed};
+// Room for the row of a quantity over a line of arguments, which serves every granule with that line.
+ghost use Rattle.std.specs.Prelude.{◌≡◌, ◌≤◌, IsTrue};
+ghost use Rattle.event_models.specs.Rows.{IsLine};
+ghost use Rattle.event_models.specs.Made.{AreMade};
 
 use crate::filling::write_entries;
 use crate::filling_slopes::write_slope_entries;
-use crate::lines::granule_line;
-use crate::rows::{ENTRIES, Kind, RowModel};
-use crate::times::ModelTimes;
+use crate::rows::{ENTRIES, Kind, Line, RowModel};
 use body_states::Quantity;
-use eph_model::Granule;
 use span_models::TERMS;
 
-/// The row of a quantity, with the start, length (in units of time) and entries that say which granules it serves.
+/// The row of a quantity over a line of arguments, and how many of its entries are made: the others are not read.
 #[derive(Clone, Copy)]
 pub(crate) struct RowRoom {
-    pub start: i64,
-    pub seconds: i64,
+    pub quantity: Quantity,
+    pub line: Line,
     pub entries: usize,
     pub rows: [RowModel; ENTRIES],
+    ghost made: { AreMade quantity line entries rows },
 }
 
 impl RowRoom {
+    ghost use Rattle.event_models.specs.Granules.{IsRowOf};
+
     /// Returns room in which no entry is made, so that it serves no granule.
-    pub fn new() -> RowRoom
-        ensures { result.entries ≡ 0 }
-    {
+    pub fn new() -> RowRoom {
         let none = RowModel {
             coefficients: [0; TERMS],
             size: 0,
             error: 0,
         };
         RowRoom {
-            start: 0,
-            seconds: 0,
+            quantity: Quantity::Position,
+            line: Line {
+                middle: 0,
+                slope: 0,
+            },
             entries: 0,
             rows: [none; ENTRIES],
         }
     }
 
-    /// Tells whether the row serves a granule: one with its start and length, and no more coefficients than entries.
-    pub fn serves(&self, granule: &Granule) -> bool
-        ensures { IsTrue result → IsServed granule.now self.now }
+    /// Tells whether the row is over a line, whatever its quantity and however many entries it has.
+    pub fn is_over(&self, line: &Line) -> bool
+        ensures { IsTrue result → self.now.line ≡ line.now }
     {
-        granule.start == self.start && granule.seconds == self.seconds && granule.n <= self.entries
+        self.line.middle == line.middle && self.line.slope == line.slope
     }
 
-    /// Replaces the row by a granule's: for each coefficient a model of T_k for positions, of k U_(k-1) for velocities.
-    pub fn write_row(&mut self, granule: &Granule, times: &ModelTimes, quantity: Quantity)
-        requires granule { IsGranuleOver times.now.first times.now.last granule.now }
-        ensures made { AreMade quantity times.now.first times.now.last self.new }
-        ensures served { IsServed granule.now self.new }
+    /// Tells whether the row is that of a quantity over a line, with at least `n` entries.
+    pub fn serves(&self, quantity: Quantity, line: &Line, n: usize) -> bool
+        ensures { IsTrue result → IsRowOf quantity line.now n self.now }
     {
-        let line = granule_line(granule, times);
-        self.start = granule.start;
-        self.seconds = granule.seconds;
-        self.entries = granule.n;
+        self.quantity == quantity && self.is_over(line) && n <= self.entries
+    }
+
+    /// Replaces the row by that of a quantity over a line: for each `k` below `n` a model of T_k for positions, of
+    /// k U_(k-1) for velocities.
+    pub fn write_row(&mut self, quantity: Quantity, line: &Line, n: usize)
+        requires line { IsLine line.now }
+        requires some { 1 ≤ n }
+        requires few { n ≤ 32 }
+    {
+        self.quantity = quantity;
+        self.line = *line;
+        self.entries = n;
         match quantity {
-            Quantity::Position => write_entries(Kind::First, &line, granule.n, &mut self.rows),
-            Quantity::Velocity => write_slope_entries(&line, granule.n, &mut self.rows),
+            Quantity::Position => write_entries(Kind::First, line, n, &mut self.rows),
+            Quantity::Velocity => write_slope_entries(line, n, &mut self.rows),
         }
     }
 }

@@ -1,9 +1,8 @@
 // The rows of the columns in use over some times, in room that is lent.
 ghost use Rattle.std.specs.Prelude.{◌≡◌, ◌<◌};
-ghost use Rattle.spec_bodies.specs.declared.quantity.Quantity.TheVariants.{Position, Velocity};
 ghost use Rattle.spec_bodies.specs.Views.{Fits};
 ghost use Rattle.column_steps.specs.Listed.{step_count};
-ghost use Rattle.event_models.specs.Granules.{AreRooms};
+ghost use Rattle.event_models.specs.Granules.{AreLines};
 ghost use Rattle.event_models.specs.Spans.{IsSpanSeen};
 
 use crate::rooms::RowRooms;
@@ -13,7 +12,8 @@ use column_steps::{MAX_STEPS, StepPlace};
 use span_models::Model;
 
 /// Room in which models are made one after the other: the rows of positions and of velocities, and a slot for each
-/// step of a list. It is large, so it is made once and lent to each call. No call reads what another left in it.
+/// step of a list. It is large, so it is made once and lent to each call. Rows and factors stay from one call to the
+/// next, each with the line of arguments or the length for which it holds; what a call leaves in slots is not read.
 #[derive(Drop)]
 pub struct ModelRooms {
     pub(crate) position: RowRooms,
@@ -31,7 +31,7 @@ impl ModelRooms {
         }
     }
 
-    /// Writes the rows over some times of the quantities that a step and those before it read.
+    /// Finds or writes the rows over some times of the quantities that a step and those before it read.
     pub(crate) fn write_rows(
         &mut self,
         states: &BodyStates,
@@ -42,8 +42,8 @@ impl ModelRooms {
         requires same { states.now.ephemeris ≡ ephemeris.now }
         requires fits { Fits states.now times.now.first times.now.last }
         requires step { listed.place < step_count listed.steps.now }
-        ensures position { AreRooms Position times.now.first times.now.last self.new.position }
-        ensures velocity { AreRooms Velocity times.now.first times.now.last self.new.velocity }
+        ensures position { AreLines times.now.first times.now.last self.new.position }
+        ensures velocity { AreLines times.now.first times.now.last self.new.velocity }
     {
         let (position, velocity) = (Quantity::Position, Quantity::Velocity);
         let of_position = reads_quantity(listed, position);
@@ -78,7 +78,7 @@ impl<'s, 'e> Span<'s, 'e> {
     /// Returns the rows of a quantity.
     pub fn rows(&self, quantity: Quantity) -> &'s RowRooms
         requires { IsSpanSeen self.now }
-        ensures { AreRooms quantity self.now.times.first self.now.times.last result.now }
+        ensures { AreLines self.now.times.first self.now.times.last result.now }
     {
         match quantity {
             Quantity::Position => self.position,

@@ -5,15 +5,15 @@ ghost use Rattle.spec_ephemeris.specs.Series.{Series};
 ghost use Rattle.spec_motions.specs.Enclosures.{IsSeries, sum_exponent};
 ghost use Rattle.spec_bodies.specs.declared.quantity.Quantity.TheVariants.{Position, Velocity};
 ghost use Rattle.spec_covers.specs.Combining.{IsUpto, ScalesTo, scaled_loss};
-ghost use Rattle.event_models.specs.Granules.{AreAxisSums, AreMade, IsAxisModel, IsGranuleOver, IsServed, IsValueOf, first_place};
+ghost use Rattle.event_models.specs.Granules.{AreAxisSums, IsAxisModel, IsGranuleOver, IsServed, IsValueOf, first_place};
 
 use crate::granules::axis_coefficients;
+use crate::length_factors::LengthFactors;
 use crate::row_room::RowRoom;
 use crate::sums::weighted_sum;
 use crate::times::ModelTimes;
 use body_states::Quantity;
 use eph_model::Granule;
-use ival_core::Ival;
 use span_models::{Model, settled};
 
 /// The exponent of 2 of the unit of a sum of coefficients times entries.
@@ -22,24 +22,25 @@ const SUM_EXPONENT: i32 = -24 - 42;
 /// The exponent of 2 of the unit of a sum of coefficients times slopes, before it is divided.
 const SLOPE_EXPONENT: i32 = -24 - 50;
 
-/// Returns a model of a quantity along a granule's axis, by a row that serves it, or None if a number passes its limit.
+/// Returns a model of a quantity along a granule's axis, by a row that serves it and the factors that are kept, or None if
+/// a number passes its limit.
 pub(crate) fn axis_model(
     quantity: Quantity,
     granule: &Granule,
     axis: usize,
     room: &RowRoom,
     times: &ModelTimes,
+    factors: &LengthFactors,
 ) -> Option<Model>
     requires granule { IsGranuleOver times.now.first times.now.last granule.now }
     requires axis { axis < 3 }
-    requires made { AreMade quantity times.now.first times.now.last room.now }
-    requires served { IsServed granule.now room.now }
+    requires served { IsServed quantity times.now.first times.now.last granule.now room.now }
     ensures { IsAxisModel quantity times.now.first times.now.last granule.now axis result }
 {
     let sum = sum_model(quantity, granule, axis, room, times)?;
     match quantity {
         Quantity::Position => position_model(&sum),
-        Quantity::Velocity => velocity_model(&sum, granule.seconds),
+        Quantity::Velocity => velocity_model(&sum, granule.seconds, factors),
     }
 }
 
@@ -53,8 +54,7 @@ fn sum_model(
 ) -> Option<Model>
     requires granule { IsGranuleOver times.now.first times.now.last granule.now }
     requires axis { axis < 3 }
-    requires made { AreMade quantity times.now.first times.now.last room.now }
-    requires served { IsServed granule.now room.now }
+    requires served { IsServed quantity times.now.first times.now.last granule.now room.now }
     ensures { AreAxisSums quantity times.now.first times.now.last granule.now axis result }
 {
     let pairs = axis_coefficients(granule, axis);
@@ -82,22 +82,22 @@ fn position_model(sum: &Model) -> Option<Model>
 }
 
 // Returns a velocity's model from its sum's, times 2 / seconds of the granule, or None if it passes its limits.
-fn velocity_model(sum: &Model, seconds: i64) -> Option<Model>
+fn velocity_model(sum: &Model, seconds: i64, factors: &LengthFactors) -> Option<Model>
     requires long { pos 1 ≤ℤ seconds }
     ensures { (s : Series) → IsSeries s → s.duration ≡ unsigned_abs seconds
         → IfSome result (IsValueOf Velocity s sum.now) }
 {
-    let product = scaled_model(sum, seconds)?;
+    let product = scaled_model(sum, seconds, factors)?;
     let units = lost_units(sum, &product, seconds)?;
     product.widened(units)
 }
 
 // Returns a model of the numbers near a model times 2 / seconds. None is returned if it passes its limits.
-fn scaled_model(sum: &Model, seconds: i64) -> Option<Model>
+fn scaled_model(sum: &Model, seconds: i64, factors: &LengthFactors) -> Option<Model>
     requires long { pos 1 ≤ℤ seconds }
     ensures { IfSome result (ScalesTo (unsigned_abs seconds) sum.now) }
 {
-    let factor = Model::of_interval(Ival::scale(1 << 120, 1 << 120, -120, seconds))?;
+    let factor = factors.factor(seconds)?;
     sum.product(&factor)
 }
 

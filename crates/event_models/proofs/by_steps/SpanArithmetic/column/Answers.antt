@@ -14,7 +14,7 @@ column_granule-granule-requires c =
 
 pub model-requires : goal.model-requires
 model-requires c =
-    record { granule = c.column_granule-granule.ensures.over; axis = (readable (goal.at.model-requires c).After-listed_columns_are_read).along; rows = c.rows.ensures }
+    record { granule = c.column_granule-granule.ensures.over; axis = (readable (goal.at.model-requires c).After-listed_columns_are_read).along; lines = c.rows.ensures }
 
 pub returns : goal.returns
 returns c =

@@ -1,5 +1,5 @@
-use Rattle.event_models.specs.Granules.{AreRooms}
+use Rattle.event_models.specs.Granules.{AreLines}
 use Rattle.event_models.proofs.rooms.RowRooms.add_rows.Given as goal
 
 abbrev pub invariant-loop-place : goal.invariant-loop-place
-invariant-loop-place l = AreRooms l.quantity l.times.first l.times.last l.self
+invariant-loop-place l = AreLines l.times.first l.times.last l.self

@@ -5,3 +5,4 @@ mod QuietSpans
 mod Guards
 mod Bounds
 mod SpanWords
+pub mod UnitNodes

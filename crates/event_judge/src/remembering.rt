@@ -5,7 +5,8 @@ ghost use Rattle.spec_searches.specs.Search.{crosses, verdict_of};
 ghost use Rattle.spec_bounds.specs.Steady.{IsSteady, sign_at};
 ghost use Rattle.event_judge.specs.Found.{whole_enclosure};
 ghost use Rattle.event_judge.specs.Memory.{LiesInSteady};
-ghost use Rattle.event_judge.specs.Plain.{IsPlain};
+ghost use Rattle.spec_trees.specs.Cuts.{is_wide};
+ghost use Rattle.event_judge.specs.Plain.{IsByKnownEnds, IsPlain, IsPlainUnit};
 
 use crate::memory::Memory;
 use crate::naming::Naming;
@@ -33,6 +34,15 @@ impl<'s, 'e> ValidNode<'s, 'e> {
             && self.is_wide()
             && !self.is_narrow()
             && self.nearest_border().is_none()
+    }
+
+    // Tells whether the node is one tick wide and the event has no conditions, so that signs at its ends may tell its
+    // verdict.
+    fn needs_only_end_signs(self) -> bool
+        ensures guards { IsTrue result → self.entry.search.now.event.conditions ≡ [] }
+        ensures unit { IsTrue result → is_wide self.entry.node ≡ false }
+    {
+        !self.is_wide() && self.has_no_guard()
     }
 
     // Tells whether the event has no conditions.
@@ -95,6 +105,20 @@ impl<N: Naming> Memory<N> {
         self.lie_in_steady_span(node.first().offset(), node.last().offset())
     }
 
+    // Returns the verdict that the signs at a node's ends tell in a steady span, if each of them is `Yes` or `No`, or
+    // none.
+    fn verdict_by_known_ends(&self, node: ValidNode) -> Option<Verdict>
+        requires named { node.search.now ≡ N.search }
+        ensures { IfSome result (IsByKnownEnds N.search node.entry.node) }
+    {
+        let (first, last) = node.end_signs(self);
+        if is_known(first) && is_known(last) {
+            Some(node.steady_verdict(first, last))
+        } else {
+            None
+        }
+    }
+
     // Returns the verdict of a node in a steady span if the sign at each of its ends is `Yes` or `No`, or none.
     fn verdict_by_ends(&self, node: ValidNode) -> Option<Verdict>
         requires named { node.search.now ≡ N.search }
@@ -103,11 +127,24 @@ impl<N: Naming> Memory<N> {
     {
         steady_spans_tell_verdicts();
         node.search.is_search();
-        let (first, last) = node.end_signs(self);
-        if is_known(first) && is_known(last) {
-            Some(node.steady_verdict(first, last))
-        } else {
-            None
+        match self.verdict_by_known_ends(node) {
+            Some(verdict) => Some(verdict),
+            None => None,
+        }
+    }
+
+    // Returns the verdict of a node one tick wide, of an event without conditions: by the signs at its ends, or by
+    // enclosures if one of these signs is open. No border falls into the node.
+    fn unit_verdict(&self, node: ValidNode) -> Verdict
+        requires named { node.search.now ≡ N.search }
+        requires unit { IsPlainUnit node.search.now node.node }
+        requires uncrossed { crosses node.search.now node.node ≡ false }
+        ensures { result ≡ verdict_of N.search node.entry.node }
+    {
+        node.search.is_search();
+        match self.verdict_by_known_ends(node) {
+            Some(verdict) => verdict,
+            None => node.borderless_verdict(self),
         }
     }
 
@@ -194,13 +231,15 @@ impl<N: Naming> Memory<N> {
     }
 
     // Returns the verdict of a node with no border in it, if nothing that is remembered shows it. The signs at its ends
-    // are asked first if the last such node had a turn between them.
+    // are asked first if they may tell it alone, or if the last such node had a turn between them.
     fn uncrossed_verdict(&self, node: ValidNode) -> Verdict
         requires named { node.search.now ≡ N.search }
         requires uncrossed { crosses node.search.now node.node ≡ false }
         ensures { result ≡ verdict_of N.search node.entry.node }
     {
-        if self.finds_node_is_quiet(node) {
+        if node.needs_only_end_signs() {
+            self.unit_verdict(node)
+        } else if self.finds_node_is_quiet(node) {
             Verdict::Clear
         } else if self.expects_turn() && node.needs_only_limits() && self.has_wanted_turn(node) {
             self.verdict_by_turn(node)

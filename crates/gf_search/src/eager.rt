@@ -67,13 +67,14 @@ fn eager_leaves<R: Threads + Wait + Sync, J: Judge, G: Gate>(
     coarse_leaves(walk, &eager, stills)
 }
 
-// Returns leaves of the eager tree of a search that is walked, settled by the walk's judge: an undecided leaf becomes
-// clear if it lies in a clear leaf of the search's tree.
+// Returns leaves of the eager tree of a search that is walked, settled by still spans and the walk's judge: an undecided
+// leaf becomes clear if it lies in a clear leaf of the search's tree.
 fn settled_leaves<R, J: Judge, G>(
     walk: &Walk<R, J, G>,
     stills: &StillList,
     found: Vec<Leaf>,
 ) -> Vec<Leaf>
+    requires still { All (IsStill walk.now.search.now) stills.now }
     requires time { All HasTime found.items }
     ensures { result.items ≡ map (settled walk.now.search.now walk.now.root) found.items }
 {

@@ -3,9 +3,11 @@ mod Begun
 mod Changing
 mod Cutting
 mod Descent
+mod EndSigns
 mod Eager
 mod FollowingNodes
 mod Served
+mod TimesHeld
 mod Doubled
 mod Margins
 mod SpanBounds

@@ -1,5 +1,6 @@
 -- What bounds of the function over times of one granule tell.
-use Rattle.std.proofs.Common.{◌≡◌, Bool, true, false, ℤ, ◌<ℤ◌, refl, subst}
+use Rattle.std.proofs.Common.{◌≡◌, Bool, true, false, ℤ, ◌<ℤ◌, refl, subst, arith}
+use Rattle.std.proofs.lemmas.Int.{ints}
 use Rattle.std.specs.Prelude.{if◌then◌else◌}
 use Rattle.spec_intervals.specs.declared.signs.Sign.TheVariants.{Yes, No}
 use Rattle.spec_intervals.specs.Interval.{Interval}
@@ -37,3 +38,10 @@ monotone_by s x is one_way = record { fits = is.fits; one_way = subst (λ (step 
 
 pub times_fit : (s : Search) (x : SpanBound) (a b : ℤ) → IsBoundedOver s x a b → Fits s.view a b
 times_fit s x a b over = part_fits s.view a b x.first x.last over.bounded.fits over.within.from over.within.several over.within.upto
+
+-- a bound over the times from a to b, as a call returns it
+pub bounded_from : (s : Search) (x : SpanBound) (a b a' b' : ℤ) → a' ≡ a → b' ≡ b → a <ℤ b → IsBounded s x → x.first ≡ a' → x.last ≡ b' → IsBoundedOver s x a b
+bounded_from s x a b a' b' begins ends several is from upto = record {
+  bounded = is;
+  within = record { from = omega (arith, ints, begins, from); several = several; upto = omega (arith, ints, ends, upto) };
+}

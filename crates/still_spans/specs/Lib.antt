@@ -4,3 +4,4 @@ pub mod Stands
 pub mod Knowledge
 pub mod Found
 pub mod Below
+pub mod EndSigns

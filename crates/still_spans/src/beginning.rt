@@ -21,10 +21,10 @@ fn begins_within(still: StillSpan, node: Node) -> bool
     node.a <= still.from && still.from < node.b
 }
 
-// Tells whether the limits of a search allow a node to be split: it is wider than the search's least width, and not
-// yet at its greatest depth.
+/// Tells whether the limits of a search allow a node to be split: it is wider than the search's least width, and not
+/// yet at its greatest depth.
 #[inline(always)]
-fn may_be_split(search: &EventSearch, node: Node) -> bool
+pub(crate) fn may_be_split(search: &EventSearch, node: Node) -> bool
     ensures { result ≡ is_above_limits (criteria search.now) node }
 {
     search.width() < node.b.abs_diff(node.a) && node.depth < search.depth()

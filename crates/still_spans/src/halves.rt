@@ -6,6 +6,7 @@ ghost use Rattle.still_spans.specs.Found.{AreFound, IsStillOver};
 ghost use Rattle.still_spans.specs.Knowledge.{IsBoundedOver, IsKnownOver};
 
 use crate::borders::one_tick_span_between;
+use crate::budget::LeafBudget;
 use crate::known::Known;
 use crate::span_bound::SpanBound;
 use event_judge::EventSearch;
@@ -14,14 +15,14 @@ use gf_hooks::{CutRule, rule_cut};
 use spec_stills::StillSpan;
 use std::alloc::AllocError;
 
-/// The greatest number of times that a granule is halved.
-pub(crate) const DEEPEST: u32 = 24;
+/// The greatest number of times that a granule is halved: enough to come down from a granule of 49 days to a millisecond.
+pub(crate) const DEEPEST: u32 = 32;
 
 /// The greatest number of spans of a granule that are looked at.
 pub(crate) const MAX_TRIES: u32 = 16_384;
 
 /// The width, in ticks, of the widest spans that are not halved.
-const NARROWEST: u64 = 16;
+const NARROWEST: u64 = 1;
 
 /// The still spans that are found, how many more spans of a granule are looked at, and the room in which models are
 /// made.
@@ -30,9 +31,10 @@ pub(crate) struct Walk {
     pub(crate) found: Vec<StillSpan>,
     pub(crate) tries: u32,
     pub(crate) rooms: ModelRooms,
+    pub(crate) budget: LeafBudget,
 }
 
-// Tells whether the span from `a` to `b` is too narrow to be halved: at most 16 ticks, or at most the width at which
+// Tells whether the span from `a` to `b` is too narrow to be halved: one tick, or at most the width at which
 // the search stops splitting.
 fn is_too_narrow_to_halve(search: &EventSearch, a: i64, b: i64) -> bool
     requires { a <ℤ b }
@@ -102,6 +104,7 @@ impl Walk {
         ensures { (from : ℤ) → AreFound search.now from self.old.found.items a
             → OnOk result (AreFound search.now from self.new.found.items b) }
     {
+        self.budget.spend(still);
         self.add_one_tick_span_before(search, still)?;
         self.found.push(still)?;
         Ok(())
@@ -128,7 +131,8 @@ impl Walk {
             return Ok(());
         }
         self.tries -= 1;
-        let doubt = match known.still_span_within(search, over, a, b) {
+        let spare = self.budget.leaves_to_spare(search, b);
+        let doubt = match known.still_span_within(search, over, spare, a, b) {
             Ok(still) => return self.add_span(search, a, b, still),
             Err(doubt) => doubt,
         };
@@ -138,8 +142,9 @@ impl Walk {
         let Some(known) = known.model_for_parts(search, &mut self.rooms, doubt, a, b) else {
             return Ok(());
         };
+        let over = over.bound_for_parts(search, spare, a, b);
         let middle = middle_time(a, b);
-        self.add_spans_within(search, &known, over, a, middle, depth - 1)?;
-        self.add_spans_within(search, &known, over, middle, b, depth - 1)
+        self.add_spans_within(search, &known, &over, a, middle, depth - 1)?;
+        self.add_spans_within(search, &known, &over, middle, b, depth - 1)
     }
 }

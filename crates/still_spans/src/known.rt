@@ -104,12 +104,13 @@ impl Known {
         self.model.outlook(first, last, length)
     }
 
-    /// Returns the still span from `a` to `b` that the model's margin and the bound `over` show. The error says
-    /// whether still spans may be found in parts of these times.
+    /// Returns the still span from `a` to `b` that the model's margin and the bound `over` show, with `spare` leaves to
+    /// spare. The error says whether still spans may be found in parts of these times.
     pub(crate) fn still_span_within(
         &self,
         search: &EventSearch,
         over: &SpanBound,
+        spare: u64,
         a: i64,
         b: i64,
     ) -> Result<StillSpan, Doubt>
@@ -120,7 +121,7 @@ impl Known {
         let outlook = self.outlook_within(search, a, b);
         match outlook.margin {
             Some(margin) => over
-                .still_span_by_margin(search, margin, a, b)
+                .still_span_by_margin(search, margin, spare, a, b)
                 .ok_or(Doubt::Parts),
             None if self.is_long_and_far_wider(a, b) => Err(Doubt::Rough),
             None if outlook.is_blurred && self.is_short_and_far_wider(a, b) => Err(Doubt::Rough),

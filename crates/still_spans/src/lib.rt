@@ -11,22 +11,27 @@
 //!    function over it has one sign: `quiet`.
 //! 3. How far else the function keeps from 0, by a model over the granule: `known`. Where it tells too little the halves are
 //!    asked, and theirs, and where it is blurred a model of their own is made: `halves`.
-//! 4. How wide a node in a piece may be that is clear for that, by the bound of the steps: `span_bound`, `units`.
+//! 4. How wide a node in a piece may be that is clear for that, by the bound of the steps: `span_bound`, `units`. As fewer
+//!    leaves are left to spare, bounds over parts of a granule, and over pieces, are made: `budget`.
 //! 5. Whether the unit between two spans is still, which have the same sign: `borders`. Shares are joined in order: `joining`.
 //! 6. Of a node: whether a span serves it, by halving of a `StillList`: `serving`; and in an eager tree whether one begins in it,
-//!    so that it is split unjudged: `beginning`. Else the judge of the search is asked: `hastening`, `serving_judge`.
+//!    so that it is split unjudged: `beginning`. Else, in an eager tree, whether still spans hold its two ends, and the signs
+//!    that they tell there decide: `end_signs`. Else the judge of the search is asked: `hastening`, `serving_judge`.
 //! 7. Of leaves: how many leaves of the tree they stand for at most: `serving`; and which undecided ones of an eager tree lie in
 //!    a clear leaf of the tree, and are clear for that: `settling`.
 //!
 //! A `StillList` has spans of which each begins no earlier than the one before it ends, so that no more than one can serve a
-//! node; it is empty where they do not. That the spans are still is the affair of whoever made them: the rules of the judges
-//! are sound whatever they are. No call of a judge allocates or fails.
+//! node; it is empty where they do not. An `EagerJudge` is given spans that are still, since it takes signs from them. A
+//! `ServedJudge` may have any: that they are still is the affair of whoever made them. The rules of both are sound whatever
+//! the spans are. No call of a judge allocates or fails.
 #![tactic(auto)]
 
 mod beginning;
 mod borders;
+mod budget;
 mod cuts;
 mod eager_judge;
+mod end_signs;
 mod granules;
 mod halves;
 mod hastening;

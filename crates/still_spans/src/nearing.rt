@@ -35,7 +35,7 @@ impl<'j, 'e, J: Judge> EagerJudge<'j, 'e, J> {
     {
         self.search.is_search();
         if is_far_wider(at, node) {
-            match self.judge.judge(at) {
+            match self.verdict(at) {
                 Verdict::Clear => at,
                 Verdict::One(_) => at,
                 Verdict::Split => self.first_narrow_ancestor(self.part_towards(at, node), node),

@@ -71,7 +71,7 @@ impl<'j, 'e, J: Judge> EagerJudge<'j, 'e, J> {
         ensures { result ≡ is_cleared self.now.search.now at node }
     {
         self.search.is_search();
-        match self.judge.judge(at) {
+        match self.verdict(at) {
             Verdict::Clear => contains_node(at, node),
             Verdict::One(_) => false,
             Verdict::Split => self.lies_in_clear_leaf(self.part_towards(at, node), node),

@@ -11,6 +11,7 @@ ghost use Rattle.event_bounds.specs.Made.{IsBound};
 ghost use Rattle.still_spans.specs.Found.{IsStillOver, still};
 ghost use Rattle.still_spans.specs.Knowledge.{IsBounded, IsBoundedOver, side};
 
+use crate::budget::leaf_share;
 use crate::units::{halving_count, max_width_by_steps};
 use event_bounds::Bound;
 use event_judge::EventSearch;
@@ -21,12 +22,15 @@ use spec_stills::StillSpan;
 use spec_stills::margin_laws::margins_make_spans_still;
 use spec_stills::still_laws::monotone_spans_are_still;
 
-/// The number of leaves that all spans of an ephemeris share by their lengths: half of those that a search may have.
-const SHARED_LEAVES: u64 = 1 << 24;
+/// The number of leaves that is small for any one span, however few are left to spare.
+const FEW_LEAVES: u64 = 64;
 
-/// The number of leaves that is small for one span of an ephemeris of one block. For more blocks it is divided by their
-/// number.
-const FEW_LEAVES: u64 = 1 << 18;
+/// The number of leaves to spare with which no bound over a part of a granule is worth making: a 16th of those that all
+/// spans of an ephemeris share.
+const AMPLE_LEAVES: u64 = 1 << 20;
+
+/// The least ratio of the times of a bound to those of a finer one that tells more.
+const FINER: u64 = 8;
 
 /// The least share, in leaves, of a span that gives way to its halves if it has more leaves than its share.
 const MIN_HALVED_SHARE: u64 = 128;
@@ -123,13 +127,38 @@ impl SpanBound {
         }
     }
 
-    /// Returns the still span from `a` to `b`, given the margin by which the function keeps from 0 there. If it would
-    /// have too many leaves, a bound over these times alone is tried. None is returned if the search does not cut
-    /// finely enough for the span, or if its halves may serve better.
+    // Tells whether the times of the bound are at least 8 times as long as those from `a` to `b`.
+    fn is_far_wider(&self, a: i64, b: i64) -> bool {
+        b.abs_diff(a) <= self.last.abs_diff(self.first) / FINER
+    }
+
+    /// Returns the bound by which the parts of the times from `a` to `b` are examined: a new one over these times alone, if
+    /// this one is over far longer times in which the function may turn, and few leaves are left to spare; else this one.
+    pub(crate) fn bound_for_parts(
+        &self,
+        search: &EventSearch,
+        spare: u64,
+        a: i64,
+        b: i64,
+    ) -> SpanBound
+        requires { IsBoundedOver search.now self.now a b }
+        ensures { IsBoundedOver search.now result a b }
+    {
+        if spare < AMPLE_LEAVES && self.is_far_wider(a, b) && !self.is_monotone() {
+            SpanBound::bound_between(search, a, b)
+        } else {
+            *self
+        }
+    }
+
+    /// Returns the still span from `a` to `b`, given the margin by which the function keeps from 0 there, and the number
+    /// of leaves that are left to spare. If it would have more, a bound over these times alone is tried. None is returned
+    /// if the search does not cut finely enough for the span, or if its halves may serve better.
     pub(crate) fn still_span_by_margin(
         &self,
         search: &EventSearch,
         margin: Margin,
+        spare: u64,
         a: i64,
         b: i64,
     ) -> Option<StillSpan>
@@ -139,31 +168,22 @@ impl SpanBound {
         ensures { IfSome result (λ still. IsStillOver search.now a b still) }
     {
         let widest = self.widest_clear_width(search, margin, a, b);
-        if has_few_leaves(search, a, b, widest) {
+        if has_few_leaves(a, b, widest, spare) {
             return useful_span(search, a, b, widest, side_sign(margin));
         }
         let own = SpanBound::bound_between(search, a, b);
         let wider = own.widest_clear_width(search, margin, a, b);
-        if MIN_HALVED_SHARE <= leaf_share(search, a, b) && !has_few_leaves(search, a, b, wider) {
+        let share = leaf_share(search, a, b);
+        if MIN_HALVED_SHARE <= share && !has_few_leaves(a, b, wider, share) {
             return None;
         }
         useful_span(search, a, b, wider, side_sign(margin))
     }
 }
 
-// Returns how many leaves the span from `a` to `b` may have as its share of 2^24 leaves, which the spans of the
-// ephemeris share by their lengths in ticks.
-fn leaf_share(search: &EventSearch, a: i64, b: i64) -> u64 {
-    let ephemeris = search.ephemeris();
-    let ticks = ephemeris.start().abs_diff(ephemeris.end()) / SHARED_LEAVES;
-    a.abs_diff(b) / ticks.max(1)
-}
-
-// Tells whether the span from `a` to `b`, cut into nodes of `widest` ticks, has no more leaves than its share, or
-// than 2^18 divided by the number of blocks of the ephemeris.
-fn has_few_leaves(search: &EventSearch, a: i64, b: i64, widest: u64) -> bool {
-    let few = FEW_LEAVES / u64::from(search.ephemeris().blocks()).max(1);
-    a.abs_diff(b) <= widest.saturating_mul(leaf_share(search, a, b).max(few))
+// Tells whether the span from `a` to `b`, cut into nodes of `widest` ticks, has at most `spare` leaves, or at most 64.
+fn has_few_leaves(a: i64, b: i64, widest: u64, spare: u64) -> bool {
+    a.abs_diff(b) <= widest.saturating_mul(spare.max(FEW_LEAVES))
 }
 
 // Returns the sign of the numbers on the side of 0 on which a margin is: `Yes` above 0, `No` below.

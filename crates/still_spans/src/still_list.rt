@@ -1,11 +1,15 @@
 // A list of still spans in order of time, in which one is found by halving.
-ghost use Rattle.std.specs.Prelude.{◌≡◌, ◌<◌, ◌≤◌, get_or, int_le, length, nat_eq};
+ghost use Rattle.std.specs.Prelude.{◌≡◌, ◌<◌, ◌≤◌, All, IfSome, get_or, int_le, length, nat_eq};
+ghost use Rattle.spec_searches.specs.Search.{Search};
+ghost use Rattle.spec_bounds.specs.Steady.{sign_at};
 ghost use Rattle.spec_stills.specs.declared.still.StillSpan.{StillSpan};
+ghost use Rattle.spec_stills.specs.Still.{IsStill};
 ghost use Rattle.still_spans.specs.Order.{are_in_order, follow, in_order_or_none, is_next};
 ghost use Rattle.still_spans.specs.Stands.{IsCount};
 ghost use Rattle.still_spans.specs.declared.limits.TheConstants.{MAX_HALVINGS};
 
 use crate::limits::MAX_HALVINGS;
+use ival_core::Sign;
 use spec_stills::StillSpan;
 use spec_trees::Node;
 use std::marker::Model;
@@ -94,6 +98,28 @@ impl StillList {
                 ensures { result ≡ int_le still.now.from node.a }
             { still.from <= node.a },
         )
+    }
+
+    /// Returns the sign that the function of a search has at a time, if one of the still spans holds the time, or none.
+    /// Where one span ends as the next begins, the later one tells.
+    pub(crate) fn sign_at(&self, time: i64) -> Option<Sign>
+        ensures { (s : Search) → All (IsStill s) self.now
+            → IfSome result (λ sign. sign_at s time ≡ sign) }
+    {
+        let count = self.spans.partition_point(
+            |still: &StillSpan| -> bool
+                ensures { result ≡ int_le still.now.from time }
+            { still.from <= time },
+        );
+        let Some(place) = count.checked_sub(1) else {
+            return None;
+        };
+        let still = self.span_at(place);
+        if time <= still.upto {
+            Some(still.sign)
+        } else {
+            None
+        }
     }
 
     /// Returns the number of still spans in the list.

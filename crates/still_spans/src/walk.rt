@@ -7,6 +7,7 @@ ghost use Rattle.event_bounds.specs.Made.{IsBound};
 ghost use Rattle.spec_stills.specs.Still.{IsStill};
 ghost use Rattle.still_spans.specs.Found.{AreFound, AreInOrder};
 
+use crate::budget::LeafBudget;
 use crate::granules::{has_no_border_between, last_time_in_granules};
 use crate::halves::{DEEPEST, MAX_TRIES, Walk};
 use crate::known::Known;
@@ -99,6 +100,7 @@ fn still_spans_between(
         found: Vec::new(alloc),
         tries: 0,
         rooms: ModelRooms::new(),
+        budget: LeafBudget::new(from),
     };
     let mut here = from;
     while here < upto {

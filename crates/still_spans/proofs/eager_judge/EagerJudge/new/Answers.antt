@@ -4,7 +4,8 @@ use Rattle.still_spans.proofs.eager_judge.EagerJudge.new.Goals as goal
 
 pub invariant_of-result : goal.invariant_of-result
 invariant_of-result g c = record {
+  still = c.requires.still;
   sound = c.eager_trees_are_sound.ensures.sound c.args.search.now c.args.stills.now c.is_search.ensures;
-  valid = λ n valid. subst (λ (t : Rules). IsValid t n) (sym c.requires) valid;
-  verdicts = λ n. ap (λ (t : Rules). t.verdict n) c.requires;
+  valid = λ n valid. subst (λ (t : Rules). IsValid t n) (sym c.requires.rules) valid;
+  verdicts = λ n. ap (λ (t : Rules). t.verdict n) c.requires.rules;
 }

@@ -33,11 +33,11 @@ middle_time-middle-requires t c =
 
 pub add_spans_within-requires : goal.add_spans_within-requires
 add_spans_within-requires t c =
-    (search rules, first_half _ c.middle_time-middle.result _ c.ranges.a (record { sfits = c.middle_time-middle.type_inv }) c.ranges.b c.middle_time-middle.ensures.from c.middle_time-middle.ensures.upto _ _ _ c.in-Some.ensures c.requires.bounded)
+    (search rules, first_half c.args.a c.middle_time-middle.result c.args.b (record { sfits = c.middle_time-middle.type_inv }) c.middle_time-middle.ensures.from c.middle_time-middle.ensures.upto _ _ _ c.in-Some.ensures c.bound_for_parts-over.ensures)
 
 pub add_spans_within-requires-2 : goal.add_spans_within-requires-2
 add_spans_within-requires-2 t c =
-    (search rules, last_half _ c.middle_time-middle.result _ c.ranges.a (record { sfits = c.middle_time-middle.type_inv }) c.ranges.b c.middle_time-middle.ensures.from c.middle_time-middle.ensures.upto _ _ _ c.in-Some.ensures c.requires.bounded)
+    (search rules, last_half c.args.a c.middle_time-middle.result c.args.b (record { sfits = c.middle_time-middle.type_inv }) c.middle_time-middle.ensures.from c.middle_time-middle.ensures.upto _ _ _ c.in-Some.ensures c.bound_for_parts-over.ensures)
 
 pub returns : goal.returns
 returns t c = λ from found.

@@ -24,7 +24,6 @@ UNITS = {"m": 60, "h": 3600, "d": 86_400}
 NOON = datetime.datetime(2000, 1, 1, 12)
 TOLERANCE = 1
 MAX_RATIO = 1.1
-MAX_RATIO_OF_EXTREMES = 1.5
 MAX_MEDIAN = 0.7
 
 
@@ -60,7 +59,6 @@ class Search:
     def __init__(self, line, times, ticks, finder, doubles, text):
         self.name, options, step = (part.strip() for part in line.split("|"))
         words = options.split()
-        self.kind = words[words.index("--kind") + 1]
         count, unit = int(step[:-1]) * times, step[-1]
         self.step = f"{count}{unit}"
         step = str(count * UNITS[unit])
@@ -80,13 +78,9 @@ class Search:
         """The whole time of one worker to that of the peer, each with its reading."""
         return self.one.processor / self.peer.processor
 
-    def is_extreme(self):
-        """Whether it is one for the extremes of separations."""
-        return self.kind == "sepext"
-
     def is_slow(self):
         """Whether its ratio is past what is wanted."""
-        return self.ratio() > (MAX_RATIO_OF_EXTREMES if self.is_extreme() else MAX_RATIO)
+        return self.ratio() > MAX_RATIO
 
 
 def second(text):
@@ -165,12 +159,7 @@ def summary(searches):
     print(f"slower than C: {sum(s.ratio() > 1 for s in searches)} of {len(searches)}; by more than is wanted: {len(slow)}")
     for search in sorted(slow, key=Search.ratio):
         print(f"  {search.ratio():.2f} {search.name}")
-    extremes = [s for s in searches if s.is_extreme()]
-    others = [s for s in searches if not s.is_extreme()]
-    if others:
-        print(f"worst ratio of whole times: {worst(others)}; wanted: at most {MAX_RATIO}")
-    if extremes:
-        print(f"the same of the extremes of separations: {worst(extremes)}; wanted: at most {MAX_RATIO_OF_EXTREMES}")
+    print(f"worst ratio of whole times: {worst(searches)}; wanted: at most {MAX_RATIO}")
     median = statistics.median(s.ratio() for s in searches)
     print(f"median ratio of whole times: {median:.2f}; wanted: at most {MAX_MEDIAN}")
     for name, times in (("the processor", lambda run: run.processor), ("the time that passed", lambda run: run.elapsed)):

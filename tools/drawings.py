@@ -72,17 +72,19 @@ STILLS = (
     Box(0, 2, "still_spans/src/quiet.rt", ("Has the bound over the granule one sign?", "yes: all of it is still")),
     Box(0, 3, "still_spans/src/known.rt", ("Does the model keep away from 0?", "no: its halves are asked, and theirs")),
     Box(0, 4, "still_spans/src/span_bound.rt", ("Is the function monotone by its bound?", "no: nodes so wide as the steps allow")),
-    Box(0, 5, "still_spans/src/borders.rt", ("Has the next span the same sign?", "yes: so has the unit between")),
-    Box(0, 6, "still_spans/src/still_list.rt", ("the spans in order;", "none, where two overlap")),
+    Box(0, 5, "still_spans/src/budget.rt", ("Are few leaves left to spare?", "yes: bounds over parts, and over a piece")),
+    Box(0, 6, "still_spans/src/borders.rt", ("Has the next span the same sign?", "yes: so has the unit between")),
+    Box(0, 7, "still_spans/src/still_list.rt", ("the spans in order;", "none, where two overlap")),
     Box(1, 0, "still_spans/src/serving.rt", ("a node: Does a span serve it?", "yes: it is clear")),
     Box(1, 1, "still_spans/src/beginning.rt", ("find: Does a span begin in it?", "yes: it is split, unjudged")),
-    Box(1, 2, "event_judge", ("any other: the verdict of the search",)),
-    Box(1, 3, "gf_search/src/book.rt", ("the leaves in order",)),
-    Box(1, 4, "gf_search/src/counts.rt", ("Do they weigh, or count, more than the limit?", "yes: the plain tree")),
-    Box(1, 5, "still_spans/src/settling.rt", ("find: Is an undecided leaf in a clear one", "of the plain tree? yes: it is clear")),
-    Box(1, 6, "gf_sets/src/from_leaves.rt", ("set: the sign at the end of each clear leaf",)),
+    Box(1, 2, "still_spans/src/end_signs.rt", ("find: Do spans tell the signs at its ends?", "these may tell: clear, one event, split")),
+    Box(1, 3, "event_judge", ("any other: the verdict of the search",)),
+    Box(1, 4, "gf_search/src/book.rt", ("the leaves in order",)),
+    Box(1, 5, "gf_search/src/counts.rt", ("Do they weigh, or count, more than the limit?", "yes: the plain tree")),
+    Box(1, 6, "still_spans/src/settling.rt", ("find: Is an undecided leaf in a clear one", "of the plain tree? yes: it is clear")),
+    Box(1, 7, "gf_sets/src/from_leaves.rt", ("set: the sign at the end of each clear leaf",)),
 )
-STILL_ARROWS = tuple((place, place + 1) for place in range(len(STILLS) - 1) if place != 6)
+STILL_ARROWS = tuple((place, place + 1) for place in range(len(STILLS) - 1) if place != 7)
 BOX_WIDTH, BOX_HEIGHT, ROW, COLUMN = 330, 74, 104, 400
 
 

@@ -1,8 +1,9 @@
 // A list of steps in an array of fixed length.
-ghost use Rattle.std.specs.Prelude.{◌≡◌, ◌+◌, ◌<◌, ◌≤◌, ◌++◌, ◌∷◌, [], IfSome, length};
+ghost use Rattle.std.specs.Prelude.{◌≡◌, ◌+◌, ◌<◌, ◌≤◌, ◌++◌, ◌∷◌, [], IfSome, IsTrue, length};
 ghost use Rattle.spec_steps.specs.Parts.{IsPart};
 ghost use Rattle.spec_steps.specs.Steps.{IsStepOf, step_term, terms_of};
-ghost use Rattle.column_steps.specs.Listed.{CanEnter, Enters, Stands, step_count};
+ghost use Rattle.column_steps.specs.Listed.{CanEnter, Enters, Stands, listed_term, step_count};
+ghost use Rattle.column_steps.specs.Squares.{HasZeroFactor, IsSquareAlone, IsZeroCosine};
 
 use crate::sameness::is_same_step;
 use spec_steps::step_laws::{one_step_more, steps_stand_for_terms};
@@ -118,5 +119,50 @@ impl StepList {
         let place = self.count;
         self.push(step);
         place
+    }
+
+    /// Returns the number of the step whose signed square the step at `place` has for its value, and nothing else: of a
+    /// signed square it takes a product with the signed square of the cosine 0, which is 0. None is returned if it is not
+    /// made so.
+    pub fn squared_step(&self, place: usize) -> Option<usize>
+        requires { place < step_count self.now }
+        ensures { IfSome result (IsSquareAlone self.now place) }
+    {
+        let Step::Difference(square, product) = self.step(place) else {
+            return None;
+        };
+        let Step::SignedSquare(x) = self.step(square) else {
+            return None;
+        };
+        if self.has_zero_factor(product) {
+            Some(x)
+        } else {
+            None
+        }
+    }
+
+    // Tells whether a step is a product with the signed square of the cosine 0.
+    fn has_zero_factor(&self, place: usize) -> bool
+        requires { place < step_count self.now }
+        ensures { IsTrue result → HasZeroFactor (listed_term self.now place) }
+    {
+        let Step::Product(square, _) = self.step(place) else {
+            return false;
+        };
+        let Step::SignedSquare(cosine) = self.step(square) else {
+            return false;
+        };
+        self.is_zero_cosine(cosine)
+    }
+
+    // Tells whether a step is the cosine 0.
+    fn is_zero_cosine(&self, place: usize) -> bool
+        requires { place < step_count self.now }
+        ensures { IsTrue result → IsZeroCosine (listed_term self.now place) }
+    {
+        match self.step(place) {
+            Step::Cosine(number) => number.mant == 0,
+            _ => false,
+        }
     }
 }

@@ -1,6 +1,8 @@
 mod Rules
 mod Constants
-mod Terms
+mod SquareSigns
+mod Rests
+mod SignTerms
 mod Steps
 pub mod Like
 pub mod RowSteps

@@ -1,5 +1,6 @@
 pub mod Covered
 pub mod Spans
+pub mod Signs
 pub mod Rows
 pub mod Slopes
 pub mod Sums

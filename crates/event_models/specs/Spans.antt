@@ -1,15 +1,12 @@
 -- Models of what is seen of two bodies over some times.
-use Rattle.std.specs.Prelude.{◌≡◌, ℕ, ℤ, ◌≤ℤ◌, ◌-ℤ◌, Option}
+use Rattle.std.specs.Prelude.{◌≡◌, ℤ, Option}
 use Rattle.spec_intervals.specs.Interval.{Interval}
-use Rattle.spec_expressions.specs.Term.{IsFormula, Term}
-use Rattle.spec_models.specs.Models.{Covers, Model}
-use Rattle.spec_bodies.specs.Views.{Fits, View, state_enclosure}
-use Rattle.spec_searches.specs.Search.{enclosure_over}
-use Rattle.spec_steps.specs.ColumnTerms.{ColumnTerm, of_term, sight_of}
+use Rattle.spec_models.specs.Models.{Model}
+use Rattle.spec_bodies.specs.Views.{Fits}
+use Rattle.spec_steps.specs.ColumnTerms.{ColumnTerm}
 use Rattle.spec_steps.specs.Meanings.{point_meant}
-use Rattle.column_steps.specs.Listed.{IsMadeAt, Listed}
 use Rattle.event_models.specs.declared.spans.Span.{Span}
-use Rattle.event_models.specs.Covered.{IsIfMade, argument}
+use Rattle.event_models.specs.Covered.{IsIfMade}
 use Rattle.event_models.specs.Granules.{AreLines}
 
 -- between its times no granule begins, and the lines of granules are those over these times
@@ -26,8 +23,3 @@ term_at s x t = point_meant s.states.now s.times.first t x
 -- a model covers that at each time, if it is made
 abbrev pub IsTermModel : Span → ColumnTerm → Option Model → Type 0
 IsTermModel s x made = IsIfMade s.times.first s.times.last made (term_at s x)
-
--- at each time from c to d it covers the range of each formula that a step stands for, enclosed over that time alone
-abbrev pub IsFormulaModel : View → ℤ → ℤ → Listed → ℕ → Model → Type 0
-IsFormulaModel v c d l place m = (e : Term) → IsFormula e → IsMadeAt l place (of_term (sight_of v) e)
-    → (t : ℤ) → c ≤ℤ t → t ≤ℤ d → Covers m (argument c d t) (d -ℤ c) (enclosure_over (state_enclosure v) e t t).range

@@ -1,12 +1,16 @@
 // The models of the steps of a list over the columns.
-ghost use Rattle.std.specs.Prelude.{◌≡◌, ◌<◌, ◌<ℤ◌, IfSome, ℤ};
+ghost use Rattle.std.specs.Prelude.{◌≡◌, ◌<◌, ◌<ℤ◌, IfSome, length, suc, ℤ};
 ghost use Rattle.spec_intervals.specs.Interval.{Interval, product};
 ghost use Rattle.spec_bodies.specs.Views.{Fits};
 ghost use Rattle.spec_steps.specs.ColumnTerms.{sight_of};
+ghost use Rattle.spec_steps.specs.Steps.{terms_of};
 ghost use Rattle.column_steps.specs.Listed.{listed_term, slot_limit, step_count};
+ghost use Rattle.column_steps.specs.Values.{AreValues};
 ghost use Rattle.event_models.specs.Covered.{IsIfMade};
-ghost use Rattle.event_models.specs.Spans.{IsFormulaModel, IsSpanSeen, IsTermModel};
+ghost use Rattle.event_models.specs.Signs.{IsFunctionModel, IsStepModel};
+ghost use Rattle.event_models.specs.Spans.{IsSpanSeen, IsTermModel};
 
+use crate::function_model::{FunctionModel, Told};
 use crate::granules::column_granule;
 use crate::spans::{ModelRooms, Span};
 use crate::times::ModelTimes;
@@ -23,8 +27,12 @@ use spec_steps::laws::{
 use spec_text::Decimal;
 
 /// Returns a model over the times from `c` to `d` of the formula that a step stands for: at each time it covers the
-/// formula's enclosure there. None is returned if an exponent or an error passes its limit, a signed square is not seen
-/// to have one sign, or the columns need more than four rows. Equal parts are modelled once. Any room serves.
+/// formula's enclosure there, or tells its sign. None is returned if an exponent or an error passes its limit, a signed
+/// square is not seen to have one sign, or the columns need more than four rows. Equal parts are modelled once. Any room
+/// serves.
+///
+/// The signs alone are told of the function of a right angle, which is the signed square of a product of vectors: near the
+/// event it has both signs, and no polynomial is near it.
 pub fn model_over(
     rooms: &mut ModelRooms,
     listed: StepPlace,
@@ -32,7 +40,7 @@ pub fn model_over(
     states: &BodyStates,
     c: i64,
     d: i64,
-) -> Option<Model>
+) -> Option<FunctionModel>
     requires step { listed.place < step_count listed.steps.now }
     requires slot { listed.place < slot_limit }
     requires sight { listed.steps.now.sight ≡ sight_of states.now }
@@ -40,7 +48,7 @@ pub fn model_over(
     requires fits { Fits states.now c d }
     requires later { c <ℤ d }
     ensures { let l = listed.entry in
-        IfSome result (IsFormulaModel states.now c d l.steps.now l.place) }
+        IfSome result (IsFunctionModel states.now c d l.steps.now l.place) }
 {
     points();
     terms_mean_their_formulas();
@@ -56,21 +64,53 @@ pub fn model_over(
     step_model(&span, listed.steps, listed.place, &mut rooms.slots)
 }
 
-// Returns a model of the term of a step, by slots for it and the steps before it, or None if it or a part has no model.
+// Returns a model of the term of a step, by slots for it and the steps before it: of its values, or else of its signs. None
+// is returned if it or a part has no model.
 fn step_model(
     span: &Span,
     steps: &StepList,
     place: usize,
     slots: &mut [Option<Model>; MAX_STEPS],
-) -> Option<Model>
+) -> Option<FunctionModel>
     requires seen { IsSpanSeen span.now }
     requires sight { sight_of span.now.states.now ≡ steps.now.sight }
     requires step { place < step_count steps.now }
     requires slot { place < slot_limit }
-    ensures { IsTermModel span.now (listed_term steps.now place) result }
+    ensures { IfSome result (IsStepModel span.now (listed_term steps.now place)) }
 {
     fill(span, steps, 0, place + 1, slots);
-    slots[place]
+    match slots[place] {
+        Some(model) => Some(FunctionModel {
+            model,
+            told: Told::Values,
+        }),
+        None => sign_model(span, steps, place, slots),
+    }
+}
+
+// Returns a model of the signs of the term of a step, if it is the signed square of an earlier step's term and nothing
+// else: the model of that term, which has the same signs. The slots hold the models of the steps up to this one.
+fn sign_model(
+    span: &Span,
+    steps: &StepList,
+    place: usize,
+    slots: &[Option<Model>],
+) -> Option<FunctionModel>
+    requires step { place < step_count steps.now }
+    requires room { place < length slots.now }
+    requires values { AreValues (IsTermModel span.now) (terms_of steps.now.steps) (suc place) slots.now }
+    ensures { IfSome result (IsStepModel span.now (listed_term steps.now place)) }
+{
+    match steps.squared_step(place) {
+        Some(x) => match slots[x] {
+            Some(model) => Some(FunctionModel {
+                model,
+                told: Told::Signs,
+            }),
+            None => None,
+        },
+        None => None,
+    }
 }
 
 impl<'s, 'e> Arithmetic for Span<'s, 'e> {

@@ -1,4 +1,5 @@
-//! Models of what is seen of two bodies over a span of times: at each time they cover the interval of a formula.
+//! Models of what is seen of two bodies over a span of times: at each time they cover the interval of a formula, or tell
+//! its sign.
 //!
 //! In come the states of two bodies, a list of steps over columns, the step of a formula, and a span between whose
 //! times no granule begins. Out comes a model of the formula, if one can be made, by models of columns and rules
@@ -8,6 +9,7 @@
 mod by_steps;
 mod filling;
 mod filling_slopes;
+mod function_model;
 mod granule_row;
 mod granules;
 mod kept_rows;
@@ -24,4 +26,5 @@ mod times;
 mod values;
 
 pub use by_steps::model_over;
+pub use function_model::{FunctionModel, Told, is_wide_enough};
 pub use spans::ModelRooms;

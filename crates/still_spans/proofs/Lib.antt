@@ -9,8 +9,8 @@ mod FollowingNodes
 mod Served
 mod TimesHeld
 mod Doubled
-mod Margins
 mod SpanBounds
+mod Margins
 mod Halving
 mod Fewest
 mod FollowingSpans

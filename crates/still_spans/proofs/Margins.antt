@@ -1,5 +1,5 @@
 -- What is known of the numbers near a model is known of the function: how far it keeps from 0.
-use Rattle.std.proofs.Common.{◌≡◌, ℕ, ◌^◌, ◌<◌, ◌⊎◌, inl, inr, Bool, true, false, Option, None, Some, ℤ, pos, neg_ℤ, ◌-ℤ◌, ◌≤ℤ◌, ◌<ℤ◌, arith, refl, sym, ap, ◌∙◌, List, subst}
+use Rattle.std.proofs.Common.{◌≡◌, ℕ, ◌*◌, ◌^◌, ◌<◌, ◌≤◌, ◌⊎◌, inl, inr, Bool, true, false, Option, None, Some, ℤ, pos, neg_ℤ, ◌-ℤ◌, ◌≤ℤ◌, ◌<ℤ◌, arith, refl, sym, ap, ◌∙◌, List, subst}
 use Rattle.std.specs.Prelude.{IfSome, is_some, if◌then◌else◌}
 use Rattle.std.proofs.lemmas.Int.{ints}
 use Rattle.std.proofs.lemmas.Nat.{pow_pos}
@@ -16,24 +16,28 @@ use Rattle.spec_searches.proofs.Borders.{span_fits}
 use Rattle.spec_searches.proofs.Parts.{first_near, last_near}
 use Rattle.spec_bounds.specs.Steady.{sign_at}
 use Rattle.spec_bounds.proofs.States.{part_fits}
-use Rattle.spec_expressions.specs.Term.{IsFormula, Term}
 use Rattle.spec_steps.specs.ColumnTerms.{of_term, sight_of}
 use Rattle.column_steps.specs.Listed.{IsMadeAt, Listed}
 use Rattle.spec_models.specs.Ends.{low, high}
-use Rattle.spec_models.specs.Models.{Covers, IsNear, Model}
+use Rattle.spec_models.specs.Models.{Model, bulk}
+use Rattle.spec_intervals.specs.declared.signs.Sign.{Sign}
 use Rattle.spec_stills.specs.Margins.{HasMargin, IsAbove, IsBelow, range_at}
 use Rattle.span_models.specs.declared.margin.Margin.{Margin}
 use Rattle.span_models.specs.Margins.{KeepsFrom, margin_of}
 use Rattle.still_spans.specs.declared.known.Known.{Known}
-use Rattle.still_spans.specs.Knowledge.{IsKnown, IsKnownOver, argument_of, side}
+use Rattle.event_models.specs.Covered.{IsModelOf}
+use Rattle.event_models.specs.declared.function_model.FunctionModel.{FunctionModel}
+use Rattle.event_models.specs.Signs.{IsFunctionModel, IsModelOver, TellsSigns, greatest_ratio}
+use Rattle.still_spans.specs.Knowledge.{AreSignsKnownOver, AreWithin, HasOneSign, IsKnown, IsKnownOver, IsToldBetween, KeepAll, argument_of, side}
+use Rattle.still_spans.proofs.SpanBounds.{side_is_known}
 
 -- its times are near J2000
-pub near : (s : Search) (x : Known) → IsKnown s x → (neg_ℤ (pos (2 ^ 50)) ≤ℤ x.first) × (x.last ≤ℤ pos (2 ^ 50))
-near s x is =
-    let low = first_near s is.fits.view in
-    let high = last_near s is.fits.view in
-    let from = is.fits.from in
-    let upto = is.fits.upto in
+pub near : (s : Search) (x : Known) → Fits s.view x.first x.last → (neg_ℤ (pos (2 ^ 50)) ≤ℤ x.first) × (x.last ≤ℤ pos (2 ^ 50))
+near s x fits =
+    let low = first_near s fits.view in
+    let high = last_near s fits.view in
+    let from = fits.from in
+    let upto = fits.upto in
     (omega (arith, ints, low, from), omega (arith, ints, high, upto))
 
 is_argument : (c d t : ℤ) → c <ℤ d → c ≤ℤ t → t ≤ℤ d → IsArgument (argument_of c d t) (d -ℤ c)
@@ -46,10 +50,6 @@ is_argument c d t several from upto = record {
 -- the argument of a time and the length of the model's times, as they are passed on
 pub passed_argument : (c d t p q : ℤ) → c <ℤ d → c ≤ℤ t → t ≤ℤ d → p ≡ argument_of c d t → q ≡ d -ℤ c → IsArgument p q
 passed_argument c d t p q several from upto at over = rw (at, over) (is_argument c d t several from upto)
-
--- the numbers near a model keep so far from 0 at each argument between two others
-abbrev pub KeepAll : Model → ℤ → ℤ → ℤ → Margin → Type 0
-KeepAll m first last q g = (p : ℤ) (r : Fraction) → first ≤ℤ p → p ≤ℤ last → IsNear m p q r → KeepsFrom g r
 
 some_margin : (g : Margin) → 0 < g.size → pos 0 <ℤ (margin_of g).numerator
 some_margin g some = let more = mul-pos some (pow_pos (up g.exponent)) in omega (arith, ints, more)
@@ -119,30 +119,59 @@ fits_by s v e columns found a b is same in_use own nearest from several upto non
     let here : found ≡ nearest_border s.view.ephemeris (columns_of s.view) a b = nearest ∙ λ i. nearest_border (own i) ((in_use ∙ ap columns_of same) i) a b in
     span_fits s.view is a b from (omega (arith, ints, several)) upto (sym (ap is_some here) ∙ none)
 
--- what is known by a model over what is seen, of each formula for which a step stands
-pub known_by : (s : Search) (m : Model) (v : View) (l : Listed) (place : ℕ) (c d c' d' : ℤ) → v ≡ s.view → IsMadeAt l place (of_term (sight_of s.view) s.event.function)
-    → c' ≡ c → d' ≡ d → IsSearch s → Fits s.view c d → c <ℤ d
-    → ((f : Term) → IsFormula f → IsMadeAt l place (of_term (sight_of v) f)
-    → (t : ℤ) → c' ≤ℤ t → t ≤ℤ d' → Covers m (argument_of c' d' t) (d' -ℤ c') (enclosure_over (state_enclosure v) f t t).range)
-    → IsKnown s (record { model = m; first = c'; last = d' })
-known_by s m v l place c d c' d' same made first last is fits several covers = record {
-  search = is;
-  fits = rw (first, last) fits;
-  several = rw (first, last) several;
-  covers = λ t from upto.
-      let f = s.event.function in
-      let stands = subst (λ w. IsMadeAt l place (of_term (sight_of w) f)) (sym same) made in
-      subst (λ x. Covers m (argument_of c' d' t) (d' -ℤ c') x) (λ i. (enclosure_over (state_enclosure (same i)) f t t).range) (covers f is.formulas.function stands t from upto);
-}
+-- what a model over what is seen tells of the function, for whose formula a step stands
+pub told_by : (s : Search) (x : FunctionModel) (v : View) (l : Listed) (place : ℕ) (c d : ℤ) → v ≡ s.view → IsMadeAt l place (of_term (sight_of s.view) s.event.function)
+    → IsSearch s → IsFunctionModel v c d l place x → IsToldBetween s c d x
+told_by s x v l place c d same made is told =
+    let f = s.event.function in
+    let stands = subst (λ w. IsMadeAt l place (of_term (sight_of w) f)) (sym same) made in
+    subst (λ w. IsModelOver c d (λ t. (enclosure_over (state_enclosure w) f t t).range) x) same (told f is.formulas.function stands)
 
--- one that may be known from one time to another
-pub known_from : (s : Search) (found : Option Known) (a b a' b' : ℤ) → a' ≡ a → b' ≡ b → a <ℤ b → IfSome found (λ known. IsKnown s known)
-    → IfSome found (λ known. known.first ≡ a') → IfSome found (λ known. known.last ≡ b') → IfSome found (λ known. IsKnownOver s known a b)
-known_from s None a b a' b' begins ends several is from upto = is
-known_from s (Some known) a b a' b' begins ends several is from upto = record {
-  known = is;
-  within = record { from = omega (arith, ints, begins, from); several = several; upto = omega (arith, ints, ends, upto) };
-}
+-- known over all its times: by values, or by signs
+module _ (s : Search) (m : Model) (c d c' d' : ℤ) (first : c' ≡ c) (last : d' ≡ d) (is : IsSearch s) (fits : Fits s.view c d) (several : c <ℤ d) where
+  within : AreWithin c' d' c d
+  within = record { from = omega (arith, ints, first); several = several; upto = omega (arith, ints, last) }
+
+  pub values_known : IsModelOf c d m (range_at s) → IsKnownOver s (record { model = m; first = c'; last = d' }) c d
+  values_known made = record {
+    known = record {
+      search = is;
+      fits = rw (first, last) fits;
+      several = rw (first, last) several;
+      covers = rw (first, last) (λ t from upto. (made t from upto).covers);
+    };
+    within = within;
+  }
+
+  pub signs_known : TellsSigns c d m (range_at s) → AreSignsKnownOver s (record { model = m; first = c'; last = d' }) c d
+  signs_known told = record {
+    signs = record {
+      search = is;
+      fits = rw (first, last) fits;
+      several = rw (first, last) several;
+      tells = rw (first, last) told;
+    };
+    within = within;
+  }
+
+-- the sign that a model tells from one time to another, by a margin that is wide enough
+module _ (s : Search) (x : Known) (a b : ℤ) (over : AreSignsKnownOver s x a b) (g : Margin)
+    (keep : KeepAll x.model (argument_of x.first x.last a) (argument_of x.first x.last b) (x.last -ℤ x.first) g) where
+  one_sign : g.exponent ≡ x.model.exponent → bulk x.model ≤ g.size * greatest_ratio → HasOneSign s a b (side g)
+  one_sign unit far =
+      let from = over.within.from in
+      let upto = over.within.upto in
+      record {
+        known = side_is_known g;
+        signs = λ t after before.
+            over.signs.tells t (omega (arith, ints, from, after)) (omega (arith, ints, upto, before)) g
+            (record { keep = λ r close. keep (argument_of x.first x.last t) r (omega (arith, ints, after)) (omega (arith, ints, before)) close; unit = unit; far = far });
+      }
+
+  pub one_sign_if : (found : Option Sign) → IfSome found (λ sign. sign ≡ side g) → IfSome found (λ sign. g.exponent ≡ x.model.exponent)
+      → IfSome found (λ sign. bulk x.model ≤ g.size * greatest_ratio) → IfSome found (HasOneSign s a b)
+  one_sign_if None same unit far = same
+  one_sign_if (Some sign) same unit far = subst (HasOneSign s a b) (sym same) (one_sign unit far)
 
 -- the same arguments, as they are passed on
 pub kept_as : (m : Model) (first' first last' last q' q : ℤ) (found : Option Margin) → first' ≡ first → last' ≡ last → q' ≡ q → IfSome found (KeepAll m first' last' q')

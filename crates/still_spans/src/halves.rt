@@ -34,18 +34,18 @@ pub(crate) struct Walk {
     pub(crate) budget: LeafBudget,
 }
 
-// Tells whether the span from `a` to `b` is too narrow to be halved: one tick, or at most the width at which
-// the search stops splitting.
-fn is_too_narrow_to_halve(search: &EventSearch, a: i64, b: i64) -> bool
+/// Tells whether the span from `a` to `b` is too narrow to be halved: one tick, or at most the width at which
+/// the search stops splitting.
+pub(crate) fn is_too_narrow_to_halve(search: &EventSearch, a: i64, b: i64) -> bool
     requires { a <ℤ b }
     ensures { result ≡ false → (a +ℤ pos 1) <ℤ b }
 {
     b.abs_diff(a) <= search.width().max(NARROWEST)
 }
 
-// Returns the time at which the tree cuts a node from `a` to `b` in two: halfway, rounded down. Still spans are
-// halved there too, so that nodes of the tree fit into them.
-fn middle_time(a: i64, b: i64) -> i64
+/// Returns the time at which the tree cuts a node from `a` to `b` in two: halfway, rounded down. Still spans are
+/// halved there too, so that nodes of the tree fit into them.
+pub(crate) fn middle_time(a: i64, b: i64) -> i64
     requires { CanCut a b }
     ensures from { a <ℤ result }
     ensures upto { result <ℤ b }

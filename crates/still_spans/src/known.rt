@@ -1,16 +1,20 @@
 // What is known of the function of a search over times of one granule, and the still spans that it tells.
-ghost use Rattle.std.specs.Prelude.{◌≡◌, ◌^◌, ◌-ℤ◌, ◌≤ℤ◌, ◌<ℤ◌, pos, neg_ℤ, IfOk, IfSome};
+ghost use Rattle.std.specs.Prelude.{◌≡◌, ◌*◌, ◌^◌, ◌≤◌, ◌-ℤ◌, ◌≤ℤ◌, ◌<ℤ◌, pos, neg_ℤ, IfOk, IfSome};
 ghost use Rattle.spec_bodies.specs.Views.{Fits};
 ghost use Rattle.spec_bounds.specs.Steady.{sign_at};
 ghost use Rattle.spec_stills.specs.Margins.{HasMargin};
+ghost use Rattle.spec_models.specs.Models.{bulk};
 ghost use Rattle.span_models.specs.Margins.{margin_of};
+ghost use Rattle.event_models.specs.Signs.{greatest_ratio};
 ghost use Rattle.still_spans.specs.Found.{IsStillOver};
-ghost use Rattle.still_spans.specs.Knowledge.{IsBoundedOver, IsKnown, IsKnownOver, argument_of, side};
+ghost use Rattle.still_spans.specs.Knowledge.{AreSignsKnownOver, AreWithin, HasOneSign, IsBoundedOver, IsKnownOver, KeepAll, argument_of, side};
 
-use crate::span_bound::SpanBound;
+use crate::knowledge::Knowledge;
+use crate::span_bound::{SpanBound, side_sign};
 use event_judge::EventSearch;
-use event_models::{ModelRooms, model_over};
-use span_models::{Model, Outlook};
+use event_models::{ModelRooms, is_wide_enough};
+use ival_core::Sign;
+use span_models::{Margin, Model, Outlook};
 use spec_stills::StillSpan;
 use spec_stills::margin_laws::margins_tell_signs;
 
@@ -46,8 +50,8 @@ pub(crate) struct Known {
 
 impl Known {
     /// Makes a model of the search's function over the times from `first` to `last`, in room that is lent. None is
-    /// returned if the function has no model there.
-    pub(crate) fn model_function(
+    /// returned if the function has no model of its values there.
+    pub(crate) fn over(
         search: &EventSearch,
         rooms: &mut ModelRooms,
         first: i64,
@@ -55,14 +59,11 @@ impl Known {
     ) -> Option<Known>
         requires fits { Fits search.now.view first last }
         requires several { first <ℤ last }
-        ensures known { IfSome result (λ known. IsKnown search.now known) }
-        ensures first { IfSome result (λ known. known.first ≡ first) }
-        ensures last { IfSome result (λ known. known.last ≡ last) }
+        ensures { IfSome result (λ known. IsKnownOver search.now known first last) }
     {
-        search.is_search();
-        let (listed, states) = (search.function_step(), search.states());
-        match model_over(rooms, listed, search.ephemeris(), states, first, last) {
-            Some(model) => Some(Known { model, first, last }),
+        match Knowledge::over(search, rooms, first, last) {
+            Some(Knowledge::Values(known)) => Some(known),
+            Some(Knowledge::Signs(_)) => None,
             None => None,
         }
     }
@@ -89,6 +90,20 @@ impl Known {
         self.last - self.first
     }
 
+    // Returns what is known of all numbers near the model from `a` to `b`: a margin that they keep from 0 on one side, or
+    // none.
+    fn outlook_between(&self, a: i64, b: i64) -> Outlook
+        requires first_near { neg_ℤ (pos (2 ^ 50)) ≤ℤ self.now.first }
+        requires last_near { self.now.last ≤ℤ pos (2 ^ 50) }
+        requires within { AreWithin self.now.first self.now.last a b }
+        ensures { let x = self.now in IfSome result.margin (KeepAll x.model
+            (argument_of x.first x.last a) (argument_of x.first x.last b) (x.last -ℤ x.first)) }
+    {
+        let (first, last) = (self.argument_at(a), self.argument_at(b));
+        let length = self.length_in_ticks();
+        self.model.outlook(first, last, length)
+    }
+
     // Returns what the model tells of the function from `a` to `b`: how far it keeps from 0 and on which side, or no
     // margin if it may pass 0. The width of the search is read for what the call ensures.
     fn outlook_within(&self, search: &EventSearch, a: i64, b: i64) -> Outlook
@@ -99,9 +114,53 @@ impl Known {
     {
         margins_tell_signs();
         let _search = search.width();
-        let (first, last) = (self.argument_at(a), self.argument_at(b));
-        let length = self.length_in_ticks();
-        self.model.outlook(first, last, length)
+        self.outlook_between(a, b)
+    }
+
+    // Returns the sign that the function has at each time from `a` to `b`, by a model that tells its signs. None is
+    // returned if it is not seen to have one sign. The width of the search is read for what the call ensures.
+    fn sign_within(&self, search: &EventSearch, a: i64, b: i64) -> Option<Sign>
+        requires { AreSignsKnownOver search.now self.now a b }
+        ensures { IfSome result (HasOneSign search.now a b) }
+    {
+        let _search = search.width();
+        match self.outlook_between(a, b).margin {
+            Some(margin) => self.sign_by_margin(margin),
+            None => None,
+        }
+    }
+
+    /// Returns the still span from `a` to `b` that the signs and the bound `over` show: the function has one sign there, and
+    /// is monotone. None is returned if this is not seen.
+    pub(crate) fn still_span_by_sign(
+        &self,
+        search: &EventSearch,
+        over: &SpanBound,
+        a: i64,
+        b: i64,
+    ) -> Option<StillSpan>
+        requires known { AreSignsKnownOver search.now self.now a b }
+        requires bounded { IsBoundedOver search.now over.now a b }
+        ensures { IfSome result (λ still. IsStillOver search.now a b still) }
+    {
+        match self.sign_within(search, a, b) {
+            Some(sign) => over.still_span_by_sign(search, sign, a, b),
+            None => None,
+        }
+    }
+
+    // Returns the sign of the numbers on the side of 0 on which a margin of the model is, or None if the margin is not
+    // wide enough to tell it.
+    fn sign_by_margin(&self, margin: Margin) -> Option<Sign>
+        ensures sign { IfSome result (λ sign. sign ≡ side margin) }
+        ensures unit { IfSome result (λ sign. margin.exponent ≡ self.now.model.exponent) }
+        ensures far { IfSome result (λ sign. bulk self.now.model ≤ margin.size * greatest_ratio) }
+    {
+        if is_wide_enough(&self.model, margin) {
+            Some(side_sign(margin))
+        } else {
+            None
+        }
     }
 
     /// Returns the still span from `a` to `b` that the model's margin and the bound `over` show, with `spare` leaves to
@@ -157,7 +216,7 @@ impl Known {
     {
         match doubt {
             Doubt::Parts => Some(*self),
-            Doubt::Rough => Known::model_function(search, rooms, a, b),
+            Doubt::Rough => Known::over(search, rooms, a, b),
             Doubt::Blurred => None,
         }
     }

@@ -9,8 +9,9 @@
 //!    mostly, so that no granule lies in two, one share for each worker: `cuts`, `shares`.
 //! 2. Which times have no border of a granule in them: `granules`, `walk`. A granule is still as a whole where the bound of the
 //!    function over it has one sign: `quiet`.
-//! 3. How far else the function keeps from 0, by a model over the granule: `known`. Where it tells too little the halves are
-//!    asked, and theirs, and where it is blurred a model of their own is made: `halves`.
+//! 3. How far else the function keeps from 0, by a model over the granule: `knowledge`, `known`. Where it tells too little the
+//!    halves are asked, and theirs, and where it is blurred a model of their own is made: `halves`. Where the model tells signs
+//!    alone, as that of a right angle, pieces are taken in which the function is monotone too: `sign_halves`.
 //! 4. How wide a node in a piece may be that is clear for that, by the bound of the steps: `span_bound`, `units`. As fewer
 //!    leaves are left to spare, bounds over parts of a granule, and over pieces, are made: `budget`.
 //! 5. Whether the unit between two spans is still, which have the same sign: `borders`. Shares are joined in order: `joining`.
@@ -36,6 +37,7 @@ mod granules;
 mod halves;
 mod hastening;
 mod joining;
+mod knowledge;
 mod known;
 mod limits;
 mod nearing;
@@ -45,6 +47,7 @@ mod serving;
 mod serving_judge;
 mod settling;
 mod shares;
+mod sign_halves;
 mod span_bound;
 mod standing;
 mod still_list;

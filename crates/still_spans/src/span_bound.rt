@@ -9,7 +9,7 @@ ghost use Rattle.spec_stills.specs.Margins.{HasMargin, StepsFit};
 ghost use Rattle.span_models.specs.Margins.{margin_of};
 ghost use Rattle.event_bounds.specs.Made.{IsBound};
 ghost use Rattle.still_spans.specs.Found.{IsStillOver, still};
-ghost use Rattle.still_spans.specs.Knowledge.{IsBounded, IsBoundedOver, side};
+ghost use Rattle.still_spans.specs.Knowledge.{HasOneSign, IsBounded, IsBoundedOver, side};
 
 use crate::budget::leaf_share;
 use crate::units::{halving_count, max_width_by_steps};
@@ -151,6 +151,41 @@ impl SpanBound {
         }
     }
 
+    /// Returns the bound by which the times from `a` to `b` are examined where only signs are known: a new one over these times
+    /// alone, if this one is over longer times in which the function may turn; else this one.
+    pub(crate) fn bound_for_signs(&self, search: &EventSearch, a: i64, b: i64) -> SpanBound
+        requires { IsBoundedOver search.now self.now a b }
+        ensures { IsBoundedOver search.now result a b }
+    {
+        if b.abs_diff(a) < self.last.abs_diff(self.first) && !self.is_monotone() {
+            SpanBound::bound_between(search, a, b)
+        } else {
+            *self
+        }
+    }
+
+    /// Returns the still span from `a` to `b`, given the sign that the function has there at each time: nodes of any width
+    /// are clear, if the function is monotone. None is returned if it may not be, or if the search does not cut finely
+    /// enough for the span.
+    pub(crate) fn still_span_by_sign(
+        &self,
+        search: &EventSearch,
+        sign: Sign,
+        a: i64,
+        b: i64,
+    ) -> Option<StillSpan>
+        requires bounded { IsBoundedOver search.now self.now a b }
+        requires sign { HasOneSign search.now a b sign }
+        ensures { IfSome result (λ still. IsStillOver search.now a b still) }
+    {
+        monotone_spans_are_still();
+        if self.is_monotone() {
+            useful_span(search, a, b, a.abs_diff(b), sign)
+        } else {
+            None
+        }
+    }
+
     /// Returns the still span from `a` to `b`, given the margin by which the function keeps from 0 there, and the number
     /// of leaves that are left to spare. If it would have more, a bound over these times alone is tried. None is returned
     /// if the search does not cut finely enough for the span, or if its halves may serve better.
@@ -186,8 +221,8 @@ fn has_few_leaves(a: i64, b: i64, widest: u64, spare: u64) -> bool {
     a.abs_diff(b) <= widest.saturating_mul(spare.max(FEW_LEAVES))
 }
 
-// Returns the sign of the numbers on the side of 0 on which a margin is: `Yes` above 0, `No` below.
-fn side_sign(margin: Margin) -> Sign
+/// Returns the sign of the numbers on the side of 0 on which a margin is: `Yes` above 0, `No` below.
+pub(crate) fn side_sign(margin: Margin) -> Sign
     ensures { result ≡ side margin }
 {
     if margin.is_above { Sign::Yes } else { Sign::No }

@@ -10,8 +10,9 @@ ghost use Rattle.still_spans.specs.Found.{AreFound, AreInOrder};
 use crate::budget::LeafBudget;
 use crate::granules::{has_no_border_between, last_time_in_granules};
 use crate::halves::{DEEPEST, MAX_TRIES, Walk};
-use crate::known::Known;
+use crate::knowledge::Knowledge;
 use crate::quiet::quiet_span;
+use crate::sign_halves::MAX_SIGN_TRIES;
 use crate::span_bound::{SpanBound, function_bound_between};
 use event_bounds::Bound;
 use event_judge::EventSearch;
@@ -61,10 +62,14 @@ impl Walk {
             → OnOk result (AreFound search.now from self.new.found.items b) }
     {
         let over = SpanBound::new(search, bound, a, b);
-        match Known::model_function(search, &mut self.rooms, a, b) {
-            Some(known) => {
+        match Knowledge::over(search, &mut self.rooms, a, b) {
+            Some(Knowledge::Values(known)) => {
                 self.tries = MAX_TRIES;
                 self.add_spans_within(search, &known, &over, a, b, DEEPEST)
+            }
+            Some(Knowledge::Signs(known)) => {
+                self.tries = MAX_SIGN_TRIES;
+                self.add_spans_by_signs(search, &known, &over, a, b, DEEPEST)
             }
             None => Ok(()),
         }

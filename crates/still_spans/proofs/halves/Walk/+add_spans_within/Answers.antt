@@ -22,7 +22,7 @@ returns-in_default t c = λ from found.
 
 pub middle_time-middle-requires : goal.middle_time-middle-requires
 middle_time-middle-requires t c =
-    let is = near c.args.search.now c.args.known.now c.requires.known.known in
+    let is = near c.args.search.now c.args.known.now c.requires.known.known.fits in
     let low = is.0 in
     let high = is.1 in
     let from = c.requires.known.within.from in

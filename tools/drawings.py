@@ -70,7 +70,7 @@ STILLS = (
     Box(0, 0, "still_spans/src/worth.rt", ("Is a granule halved into 8 parts or more?", "no: no spans, the plain tree")),
     Box(0, 1, "still_spans/src/shares.rt", ("a share of the times for each worker,", "granule after granule")),
     Box(0, 2, "still_spans/src/quiet.rt", ("Has the bound over the granule one sign?", "yes: all of it is still")),
-    Box(0, 3, "still_spans/src/known.rt", ("Does the model keep away from 0?", "no: its halves are asked, and theirs")),
+    Box(0, 3, "still_spans/src/known.rt", ("Does the model, of values or signs, keep off 0?", "no: its halves are asked, and theirs")),
     Box(0, 4, "still_spans/src/span_bound.rt", ("Is the function monotone by its bound?", "no: nodes so wide as the steps allow")),
     Box(0, 5, "still_spans/src/budget.rt", ("Are few leaves left to spare?", "yes: bounds over parts, and over a piece")),
     Box(0, 6, "still_spans/src/borders.rt", ("Has the next span the same sign?", "yes: so has the unit between")),

@@ -132,6 +132,25 @@ impl SpanBound {
         b.abs_diff(a) <= self.last.abs_diff(self.first) / FINER
     }
 
+    // Returns the bound by which the times from `a` to `b` are examined: a new one over these times alone, if a finer one is
+    // wanted and the function may turn in the times of this one; else this one.
+    fn bound_of_part(
+        &self,
+        search: &EventSearch,
+        is_finer_wanted: bool,
+        a: i64,
+        b: i64,
+    ) -> SpanBound
+        requires { IsBoundedOver search.now self.now a b }
+        ensures { IsBoundedOver search.now result a b }
+    {
+        if is_finer_wanted && !self.is_monotone() {
+            SpanBound::bound_between(search, a, b)
+        } else {
+            *self
+        }
+    }
+
     /// Returns the bound by which the parts of the times from `a` to `b` are examined: a new one over these times alone, if
     /// this one is over far longer times in which the function may turn, and few leaves are left to spare; else this one.
     pub(crate) fn bound_for_parts(
@@ -144,11 +163,8 @@ impl SpanBound {
         requires { IsBoundedOver search.now self.now a b }
         ensures { IsBoundedOver search.now result a b }
     {
-        if spare < AMPLE_LEAVES && self.is_far_wider(a, b) && !self.is_monotone() {
-            SpanBound::bound_between(search, a, b)
-        } else {
-            *self
-        }
+        let is_finer_wanted = spare < AMPLE_LEAVES && self.is_far_wider(a, b);
+        self.bound_of_part(search, is_finer_wanted, a, b)
     }
 
     /// Returns the bound by which the times from `a` to `b` are examined where only signs are known: a new one over these times
@@ -157,11 +173,8 @@ impl SpanBound {
         requires { IsBoundedOver search.now self.now a b }
         ensures { IsBoundedOver search.now result a b }
     {
-        if b.abs_diff(a) < self.last.abs_diff(self.first) && !self.is_monotone() {
-            SpanBound::bound_between(search, a, b)
-        } else {
-            *self
-        }
+        let is_longer = b.abs_diff(a) < self.last.abs_diff(self.first);
+        self.bound_of_part(search, is_longer, a, b)
     }
 
     /// Returns the still span from `a` to `b`, given the sign that the function has there at each time: nodes of any width

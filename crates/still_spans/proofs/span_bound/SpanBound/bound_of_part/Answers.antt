@@ -1,7 +1,7 @@
 use Rattle.std.proofs.Common.{w64}
 use Rattle.std.proofs.lemmas.Int.{to_z-of_z}
 use Rattle.still_spans.proofs.SpanBounds.{bounded_from, times_fit}
-use Rattle.still_spans.proofs.span_bound.SpanBound.bound_for_signs.Goals as goal
+use Rattle.still_spans.proofs.span_bound.SpanBound.bound_of_part.Goals as goal
 
 pub bound_between-requires-clause-fits : goal.bound_between-requires-clause-fits
 bound_between-requires-clause-fits c =

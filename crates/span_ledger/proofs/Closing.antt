@@ -2,6 +2,7 @@
 use Rattle.std.proofs.Common.{◌≡◌, ℕ, ◌+◌, List, [], ◌∷◌, ◌++◌, length, Option, Some, None, refl, sym, ap, ◌∙◌, subst, length-append, arith}
 use Rattle.std.proofs.lemmas.List.Elements.{All-push}
 use Rattle.std.specs.List.{All}
+use Rattle.std.specs.Prelude.{IfNone}
 use mathlib.Core.Option as M
 use lib.ListN.{get_elem?}
 use Rattle.atomic_table.specs.Table.{Final, Seen, rest}
@@ -55,6 +56,9 @@ found_whole t id v ws xs r idle all f e = let x = ends t id v ws xs idle all f i
 
 pub whole : (t : LedgerTerms) (v : SeatView) (r : Option (List Booked)) (book : List Booked) (x : (log : List Booked) × (r ≡ Some log) × Sound t log × EachFits log v.parts) → r ≡ Some book → Sound t book × EachFits book v.parts
 whole t v r book x e = let same : x.0 ≡ book = some_same r x.0 book x.1 e in subst (λ (l : List Booked). Sound t l × EachFits l v.parts) same (x.2, x.3)
+
+pub if_none : {A P : Type 0} (o : Option A) → o ≡ None → IfNone o P → P
+if_none {A} {P} o is p = subst (λ (r : Option A). IfNone r P) is p
 
 -- the book that a seat finds is the history, and what it holds once it has put a book back
 slot_of : List (ℕ × Option (List Booked)) → Option (List Booked)

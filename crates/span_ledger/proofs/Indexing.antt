@@ -4,6 +4,7 @@ use Rattle.std.proofs.lemmas.List.{get_or-set_same, get_or-set_other, get_or-rep
 use native.Mathlib.Decide.{ℕ_discrete}
 use Rattle.std.specs.Prelude.{IfSome, IfNone, replicate, take, ◌-◌}
 use Rattle.std.specs.Map.{lookup}
+use Rattle.std.specs.Option.{unwrap_or}
 use Rattle.std.proofs.lemmas.Bool.Decides.{nat_tests}
 use Rattle.std.proofs.lemmas.Map.Lookups.{CmpEqualImpliesEq, exact_unsigned, exact_signed, exact_pairs}
 use Rattle.std.specs.declared.cmp.Ordering.{Ordering}
@@ -129,17 +130,20 @@ begins log m counts none empty zeros =
       counted = λ k below. ap (λ (c : List ℕ). slice_index_or c k 0) zeros ∙ get_or-replicate 64 k 0 0 below;
     })
 
--- a map with the same entries
-pub stays : (log log' : List Booked) (m m' : BTreeMap Key ℕ) (w : ℕ) (counts : List ℕ) → log' ≡ log → m'.entries ≡ m.entries → Registered log m w counts → Registered log' m' w counts
-stays log log' m m' w counts same entries s =
+-- a map that answers the same, or has the same entries
+stays_by : (log log' : List Booked) (m m' : BTreeMap Key ℕ) (w : ℕ) (counts : List ℕ) → log' ≡ log → ((q : Key) → get key_cmp m' q ≡ get key_cmp m q) → Registered log m w counts → Registered log' m' w counts
+stays_by log log' m m' w counts same answers s =
     subst (λ (l : List Booked). Registered l m' w counts) (sym same) (record {
-      at = λ i f g. ap (lookup (is_at (key_cmp (key_of f.leaf)))) entries ∙ s.at i f g;
-      back = λ q i h. s.back q i (ap (lookup (is_at (key_cmp q))) (sym entries) ∙ h);
+      at = λ i f g. answers (key_of f.leaf) ∙ s.at i f g;
+      back = λ q i h. s.back q i (sym (answers q) ∙ h);
       width_is = s.width_is;
       low = s.low;
       seats = s.seats;
       counted = s.counted;
     })
+
+pub stays : (log log' : List Booked) (m m' : BTreeMap Key ℕ) (w : ℕ) (counts : List ℕ) → log' ≡ log → m'.entries ≡ m.entries → Registered log m w counts → Registered log' m' w counts
+stays log log' m m' w counts same entries s = stays_by log log' m m' w counts same (λ q. ap (lookup (is_at (key_cmp q))) entries) s
 
 -- what the index answers for a leaf
 pub found : (log : List Booked) (m : BTreeMap Key ℕ) (w : ℕ) (counts : List ℕ) (l : Leaf) (r : Option ℕ) → Registered log m w counts → r ≡ get key_cmp m (key_of l) → IfSome r (λ p. Stands l log p)
@@ -149,6 +153,40 @@ found log m w counts l None s e = tt
 pub missing : (log : List Booked) (m : BTreeMap Key ℕ) (w : ℕ) (counts : List ℕ) (l : Leaf) (r : Option ℕ) → Registered log m w counts → r ≡ get key_cmp m (key_of l) → IfNone r (Fresh l log)
 missing log m w counts l None s e = λ i f g same. let no : None ≡ Some i = e ∙ (ap (λ (x : Leaf). get key_cmp m (key_of x)) (sym same) ∙ s.at i f g) in absurd cc
 missing log m w counts l (Some p) s e = tt
+
+pub same_at : (q : Key) (o : Option ℕ) (es es' : List (Key × ℕ)) → lookup (is_at (key_cmp q)) es ≡ o → es' ≡ es → lookup (is_at (key_cmp q)) es' ≡ o
+same_at q o es es' is same = ap (lookup (is_at (key_cmp q))) same ∙ is
+
+-- a key that was asked with place n to be given it: where the answer is another place, the leaf stands there and the
+-- index answers as before; where it is n, which lies behind all entries, the leaf is new
+there : (o : Option ℕ) (v n : ℕ) → v ≡ unwrap_or o n → v ≢ n → o ≡ Some v
+there (Some p) v n is other = ap Some (sym is)
+there None v n is other = absurd (other is)
+
+answers_by : (m m' : BTreeMap Key ℕ) (k q : Key) (v : ℕ) (o : Ordering) → key_cmp k q ≡ o → get key_cmp m k ≡ Some v → Updates key_cmp m m' k (Some v) → get key_cmp m' q ≡ get key_cmp m q
+answers_by m m' k q v Equal c has u = subst (λ (x : Key). get key_cmp m' x ≡ get key_cmp m x) (exact k q c) (u.1 ∙ sym has)
+answers_by m m' k q v Less c has u = u.2 q (ap is_eq c)
+answers_by m m' k q v Greater c has u = u.2 q (ap is_eq c)
+
+pub stays_there : (log log' : List Booked) (m m' : BTreeMap Key ℕ) (w : ℕ) (counts : List ℕ) (k : Key) (v n : ℕ) → log' ≡ log → v ≡ unwrap_or (get key_cmp m k) n → v ≢ n → Updates key_cmp m m' k (Some v) → Registered log m w counts → Registered log' m' w counts
+stays_there log log' m m' w counts k v n same is other u s = stays_by log log' m m' w counts same (λ q. answers_by m m' k q v _ refl (there _ v n is other) u) s
+
+pub stands_there : (log : List Booked) (m : BTreeMap Key ℕ) (w : ℕ) (counts : List ℕ) (l : Leaf) (k : Key) (v n : ℕ) → Registered log m w counts → k ≡ key_of l → v ≡ unwrap_or (get key_cmp m k) n → v ≢ n → Stands l log v
+stands_there log m w counts l k v n s key is other =
+    let f = s.back k v (there _ v n is other) in
+    (f.0, f.1, key_apart f.0.leaf l (f.2 ∙ key))
+
+within : (log : List Booked) (e : Booked) (i : ℕ) → get_elem? log i ≡ O.some e → i < length log
+within [] e i at = absurd (O.some-ne-none e (sym at))
+within (x ∷ xs) e zero at = omega arith
+within (x ∷ xs) e (suc i) at = omega (arith, within xs e i at)
+
+new_by : (log : List Booked) (m : BTreeMap Key ℕ) (w : ℕ) (counts : List ℕ) (l : Leaf) (v n : ℕ) (o : Option ℕ) → Registered log m w counts → o ≡ get key_cmp m (key_of l) → v ≡ unwrap_or o n → v ≡ n → n ≡ length log → Fresh l log
+new_by log m w counts l v n None s e is same end = missing log m w counts l None s e
+new_by log m w counts l v n (Some p) s e is same end = let f = s.back (key_of l) p (sym e) in absurd (omega (arith, within log f.0 p f.1, is, same, end))
+
+pub new_there : (log : List Booked) (m : BTreeMap Key ℕ) (w : ℕ) (counts : List ℕ) (l : Leaf) (k : Key) (v n : ℕ) → Registered log m w counts → k ≡ key_of l → v ≡ unwrap_or (get key_cmp m k) n → v ≡ n → n ≡ length log → Fresh l log
+new_there log m w counts l k v n s key is same end = new_by log m w counts l v n _ s refl (subst (λ (x : Key). v ≡ unwrap_or (get key_cmp m x) n) key is) same end
 
 few_by : (k : ℕ) (e : Booked) (es : List Booked) → Dec (e.seat ≡ k) → length (by_seat k es) ≤ length es → length (by_seat k (e ∷ es)) ≤ length (e ∷ es)
 few_by k e es (yes own) h = let t : (e.seat == k) ≡ true = grind (arith, nat_tests) in rw t (omega (arith, h))

@@ -35,7 +35,8 @@ fn try_lock(ledger: &SpanLedger, raw: &mut Raw) -> bool
 
 // Writes an entry into the book, which the seat has taken from the ledger with the lock. Returns the entry's place
 // among all entries. Nothing is written if the leaf is in the book already (`Again`, with its place), if the book has
-// as many entries as the limit (`Full`), or if memory is out (`Memory`).
+// as many entries as the limit (`Full`), or if memory is out (`Memory`). A book with room is asked for the leaf and gets
+// the entry in one look-up; a full one is only asked.
 fn write_entry(ledger: &SpanLedger, raw: &mut Raw, entry: Booked) -> Entry
     requires ours { raw.old.table_id ≡ ledger.now.table.shared.table_id }
     requires held { HasBook raw.old.me }
@@ -49,20 +50,23 @@ fn write_entry(ledger: &SpanLedger, raw: &mut Raw, entry: Booked) -> Entry
     let Some(mut register) = ledger.table.shared.exchange(raw, BOOK, None) else {
         unreachable!()
     };
-    if let Some(place) = register.find(entry.leaf) {
-        ledger.table.shared.exchange(raw, BOOK, Some(register));
-        return Entry::Again { place };
-    }
     let place = register.len();
     if place >= ledger.limit as usize {
+        let stands = register.find(entry.leaf);
         ledger.table.shared.exchange(raw, BOOK, Some(register));
+        if let Some(place) = stands {
+            return Entry::Again { place };
+        }
         return Entry::Full;
     }
-    let added = register.add(entry);
+    let entered = register.enter(entry);
     ledger.table.shared.exchange(raw, BOOK, Some(register));
-    let Ok(()) = added else {
+    let Ok(stands) = entered else {
         return Entry::Memory;
     };
+    if let Some(place) = stands {
+        return Entry::Again { place };
+    }
     ledger.table.shared.fetch_add::<Add>(raw, COUNT, 1);
     Entry::Entered {
         place: place as u32,

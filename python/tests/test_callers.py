@@ -34,6 +34,12 @@ if __name__ == "__main__":
 """
 
 
+def with_default_signals():
+    """Takes the signals that end a process as they are by default: under `nohup` SIGHUP would be ignored."""
+    for number in (signal.SIGTERM, signal.SIGHUP):
+        signal.signal(number, signal.SIG_DFL)
+
+
 class Callers(InFolder):
     def begin(self, text, seconds=300):
         """Starts Python with a text that searches, and waits until the search and what it started run."""
@@ -43,6 +49,7 @@ class Callers(InFolder):
             cwd=self.folder,
             env={**os.environ, "PYTHONPATH": str(TOP / "python")},
             stderr=subprocess.DEVNULL,
+            preexec_fn=with_default_signals,
         )
         self.addCleanup(self.end_all, caller)
         self.assertTrue(wait_for(lambda: len(self.processes()) >= 2))

@@ -1,6 +1,6 @@
 // Sums of the products of coefficients, as intervals, with the entries of a row.
-ghost use Rattle.std.specs.Prelude.{◌≡◌, ◌≤◌, ◌<◌, ◌-◌, ◌^◌, length, map, drop, unsigned_abs, ◌+ℤ◌, ◌*ℤ◌, ◌≤ℤ◌};
-ghost use Rattle.std.specs.Int.{int_min, int_max};
+ghost use Rattle.std.specs.Prelude.{◌≡◌, ◌≤◌, ◌<◌, ◌-◌, ◌^◌, length, map, drop, slice_index_or, pos, unsigned_abs, ◌+ℤ◌, ◌*ℤ◌, ◌≤ℤ◌};
+ghost use Rattle.std.specs.Int.{from_bool, int_min, int_max};
 ghost use Rattle.spec_intervals.specs.Interval.{least4, greatest4};
 ghost use Rattle.spec_chebyshev.specs.Rows.{entry};
 ghost use Rattle.spec_motions.specs.Sums.{sum_low, sum_high};
@@ -78,9 +78,8 @@ fn sum_of_products(pairs: &[Rounded], row: &Row) -> WideEnds
     sum
 }
 
-// Returns the least and the greatest product of a number between the ends of a pair with a number of an entry. A pair
-// is the floor and the ceiling of one number, so it lies on one side of 0, and two multiplications are enough. No
-// pair reaches the last branch.
+// Returns the least and the greatest product of a number between the ends of a pair with a number of an entry, by two
+// multiplications.
 #[inline(always)]
 fn pair_times_entry(c: Rounded, e: Ival62) -> WideEnds
     requires pair { IsPair c }
@@ -90,13 +89,22 @@ fn pair_times_entry(c: Rounded, e: Ival62) -> WideEnds
     ensures lo { result.lo ≡ least4 c.lo c.hi e.lo e.hi }
     ensures hi { result.hi ≡ greatest4 c.lo c.hi e.lo e.hi }
 {
-    if c.lo >= 0 {
-        lesser_and_greater_product(c, e.lo, e.hi)
-    } else if c.hi <= 0 {
-        lesser_and_greater_product(c, e.hi, e.lo)
-    } else {
-        WideEnds { lo: 0, hi: 0 }
-    }
+    let (x, y) = ends_by_sign(c, e);
+    lesser_and_greater_product(c, x, y)
+}
+
+// Returns an entry's ends in the order of their products with a pair, the one with the lesser products first. A pair is
+// the floor and the ceiling of one number, so it lies on one side of 0.
+#[inline(always)]
+fn ends_by_sign(c: Rounded, e: Ival62) -> (i64, i64)
+    requires pair { IsPair c }
+    requires lo_fits { unsigned_abs e.lo < 2 ^ 63 }
+    requires hi_fits { unsigned_abs e.hi < 2 ^ 63 }
+    requires ordered { e.lo ≤ℤ e.hi }
+    ensures lesser { int_min (c.lo *ℤ result.0) (c.hi *ℤ result.0) ≡ least4 c.lo c.hi e.lo e.hi }
+    ensures greater { int_max (c.lo *ℤ result.1) (c.hi *ℤ result.1) ≡ greatest4 c.lo c.hi e.lo e.hi }
+{
+    if c.lo < 0 { (e.hi, e.lo) } else { (e.lo, e.hi) }
 }
 
 // Returns the lesser of the products of a pair's ends with `x`, and the greater of the products of its ends with `y`.
@@ -123,7 +131,20 @@ fn ends_by_product(c: Rounded, z: i64) -> (i64, i64)
     ensures small_lesser { unsigned_abs result.0 ≤ 2 ^ 60 }
     ensures small_greater { unsigned_abs result.1 ≤ 2 ^ 60 }
 {
-    if z < 0 { (c.hi, c.lo) } else { (c.lo, c.hi) }
+    let is_turned = z < 0;
+    (
+        one_of([c.lo, c.hi], is_turned),
+        one_of([c.hi, c.lo], is_turned),
+    )
+}
+
+// Returns the second of two numbers if `is_second`, and else the first. It is taken by its place and by no jump, which
+// a processor would foresee wrongly half of the time, as the signs of coefficients follow no rule.
+#[inline(always)]
+fn one_of(numbers: [i64; 2], is_second: bool) -> i64
+    ensures { result ≡ slice_index_or numbers (from_bool is_second) (pos 0) }
+{
+    numbers[usize::from(is_second)]
 }
 
 // Returns the product of an end of a pair and an end of an entry, in 128 bits, by one multiplication of 64-bit

@@ -5,6 +5,7 @@ ghost use Rattle.spec_steps.specs.Steps.{IsStepOf, step_term, terms_of};
 ghost use Rattle.column_steps.specs.Listed.{CanEnter, Enters, Stands, listed_term, step_count};
 ghost use Rattle.column_steps.specs.Squares.{HasZeroFactor, IsSquareAlone, IsZeroCosine};
 
+use crate::axes_read::AxesRead;
 use crate::sameness::is_same_step;
 use spec_steps::step_laws::{one_step_more, steps_stand_for_terms};
 use spec_steps::{Sight, Step};
@@ -23,6 +24,8 @@ const ROOM: usize = 512;
 pub struct StepList {
     pub(crate) sight: Sight,
     steps: [Step; ROOM],
+    /// For each step the axes that it and the steps before it read.
+    read: [AxesRead; ROOM],
     count: usize,
 }
 
@@ -56,6 +59,7 @@ impl StepList {
         StepList {
             sight,
             steps: [Step::Zero; ROOM],
+            read: [AxesRead::none(); ROOM],
             count: 0,
         }
     }
@@ -101,8 +105,26 @@ impl StepList {
         ensures { self.new ≡ record { sight = self.old.sight; steps = self.old.steps ++ step ∷ [] } }
     {
         one_step_more();
+        self.read[self.count] = self.last_axes().with(step);
         self.steps[self.count] = step;
         self.count += 1;
+    }
+
+    // Returns the axes that all steps read, which are those of the last one.
+    fn last_axes(&self) -> AxesRead {
+        if self.count == 0 {
+            AxesRead::none()
+        } else {
+            self.axes_upto(self.count - 1)
+        }
+    }
+
+    /// Returns the axes that the step with a number and those before it read.
+    pub(crate) fn axes_upto(&self, place: usize) -> AxesRead
+        requires { place < step_count self.now }
+    {
+        let _few = self.count();
+        self.read[place]
     }
 
     /// Returns the number that a step has in the list. The step is added at the end if the list has no step that is the

@@ -1,4 +1,4 @@
-use Rattle.std.proofs.Common.{◌≡◌, ◌^◌, ◌≤◌, ◌<◌, ◌*ℤ◌, ◌≤ℤ◌, ◌∷◌, [], Bool, true, false, arith, refl, ℤ, pos, slice_index_or, unsigned_abs, to_z, of_z, w64}
+use Rattle.std.proofs.Common.{◌≡◌, ◌^◌, ◌<◌, ◌*ℤ◌, ◌≤ℤ◌, ◌∷◌, [], Bool, true, false, arith, refl, ℤ, pos, slice_index_or, unsigned_abs, to_z, of_z, w64}
 use Rattle.std.proofs.lemmas.Int.{ints, to_z-of_z}
 use Rattle.std.specs.Int.{from_bool, int_min, int_max}
 use lib.Signed.{lt_z}

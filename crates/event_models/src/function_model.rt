@@ -1,5 +1,5 @@
 // What a model tells of a function.
-ghost use Rattle.std.specs.Prelude.{◌≡◌, ◌≤◌, ◌*◌, IsTrue};
+ghost use Rattle.std.specs.Prelude.{◌≡◌, ◌↔◌, ◌<◌, ◌≤◌, ◌*◌, IsTrue};
 ghost use Rattle.spec_models.specs.Models.{bulk};
 ghost use Rattle.event_models.specs.Signs.{greatest_ratio};
 
@@ -28,6 +28,8 @@ pub struct FunctionModel {
 /// Tells whether a margin from 0 of a model is wide enough for its side to tell a sign: no number near the model is more
 /// than 2^30 times as far from 0.
 pub fn is_wide_enough(model: &Model, margin: Margin) -> bool
+    ensures exact { IsTrue result ↔ ((margin.exponent ≡ model.now.exponent)
+        × (bulk model.now < margin.size * greatest_ratio)) }
     ensures unit { IsTrue result → margin.exponent ≡ model.now.exponent }
     ensures far { IsTrue result → bulk model.now ≤ margin.size * greatest_ratio }
 {

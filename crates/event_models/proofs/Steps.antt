@@ -3,6 +3,7 @@ use Rattle.std.proofs.Common.{◌≡◌, ℕ, ◌^◌, ◌≤◌, ◌<◌, arith
 use Rattle.std.proofs.lemmas.Int.{ints}
 use mir.Syntax.{w128}
 use Rattle.spec_numbers.specs.Numbers.{floor_div}
+use Rattle.spec_chebyshev.specs.Differences.{Within}
 use Rattle.event_models.specs.Rows.{AreNumbers, line_limit, row_limit, terms}
 
 module _ (a b : ℤ) (first : unsigned_abs a ≤ 2 ^ 57) (second : unsigned_abs b ≤ 2 ^ 55) where
@@ -20,6 +21,9 @@ kept a small = omega (arith, ints, small)
 
 pub kept60 : (a : ℤ) → unsigned_abs a ≤ line_limit → to_z w64 (of_z w64 a) ≡ a
 kept60 a small = omega (arith, ints, small)
+
+pub kept_end : (a : ℤ) → Within a (pos (2 ^ 60)) → to_z w64 (of_z w64 a) ≡ a
+kept_end a within = let low = within.low in let high = within.high in omega (arith, ints, low, high)
 
 pub kept58 : (a : ℤ) → unsigned_abs a ≤ 2 ^ 58 → to_z w64 (of_z w64 a) ≡ a
 kept58 a small = omega (arith, ints, small)

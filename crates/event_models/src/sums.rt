@@ -1,12 +1,17 @@
 // Sums of coefficients times the models of the entries of a row.
 ghost use Rattle.std.specs.Prelude.{◌≡◌, ◌≤◌, ◌<◌, ◌+◌, ◌*◌, ◌^◌, ◌-◌, ℕ, length, slice_index_or, pos, ◌+ℤ◌, ◌*ℤ◌, ◌≤ℤ◌, IfSome, false, unsigned_abs};
 ghost use Rattle.spec_motions.specs.Pairs.{ArePairs, IsPair};
+ghost use Rattle.spec_models.specs.Models.{coefficient};
 ghost use Rattle.event_models.specs.Rows.{AreSumRows, IsSumRow, sum_limit, terms};
-ghost use Rattle.event_models.specs.Sums.{AreNumbersWithin, IsAdded, IsSumOf, IsWideWithin, added_error, added_number, no_sum};
+ghost use Rattle.event_models.specs.Sums.{AreNumbersWithin, AreNumbersOfSum, IsErrorOfSum, IsSumOf, IsWideWithin, added_error, half};
 
 use crate::rows::{ENTRIES, RowModel};
 use span_models::TERMS;
 use spec_ephemeris::Rounded;
+
+/// The number of coefficients that are summed in one pass over the series: the sums of all need more registers than
+/// there are.
+const HALF: usize = TERMS / 2;
 
 /// A polynomial with a bound of its error, in 128 bits.
 #[derive(Clone, Copy)]
@@ -28,15 +33,31 @@ pub(crate) fn weighted_sum(
     ensures within { IfSome result (IsWideWithin 32) }
     ensures covers { IfSome result (IsSumOf pairs.now rows.now from) }
 {
-    let mut wide = Wide::zero();
+    let error = sum_error(pairs, rows, from)?;
+    let low = half_sum(pairs, rows, from, 0);
+    let high = half_sum(pairs, rows, from, HALF);
+    Some(Wide {
+        coefficients: joined(&low, &high),
+        error,
+    })
+}
+
+// Returns a bound of the sum's error, or None if the two roundings of a coefficient differ by more than one.
+fn sum_error(pairs: &[Rounded], rows: &[RowModel; ENTRIES], from: usize) -> Option<u128>
+    requires pairs { ArePairs pairs.now }
+    requires rows { AreSumRows (length pairs.now) rows.now }
+    requires from { from ≤ length pairs.now }
+    ensures { IfSome result (IsErrorOfSum pairs.now rows.now (length pairs.now - from)) }
+{
+    let mut error: u128 = 0;
     for i in 0..pairs.len() - from {
         let k = pairs.len() - 1 - i;
         if are_ends_apart(pairs[k]) {
             return None;
         }
-        wide.add_product(pairs[k], &rows[k], i);
+        error = error_with_product(error, pairs[k], &rows[k], i);
     }
-    Some(wide)
+    Some(error)
 }
 
 // Tells whether the two roundings of a coefficient differ by more than one.
@@ -47,48 +68,70 @@ fn are_ends_apart(pair: Rounded) -> bool
     pair.lo + 1 < pair.hi
 }
 
-impl Wide {
-    /// Returns the sum of no products: 0, without an error.
-    pub fn zero() -> Wide
-        ensures { result ≡ no_sum }
-    {
-        Wide {
-            coefficients: [0; TERMS],
-            error: 0,
-        }
-    }
-
-    /// Adds a coefficient times an entry of a row to the sum. The coefficient is its lower end, or lies between this and
-    /// the next number. The sum has at most `count` products before, which keeps it within 128 bits.
-    pub fn add_product(&mut self, pair: Rounded, row: &RowModel, count: usize)
-        requires few { count < 32 }
-        requires within { IsWideWithin count self.old }
-        requires row { IsSumRow row.now }
-        requires pair { unsigned_abs pair.lo ≤ 2 ^ 60 }
-        ensures added { IsAdded pair.lo row.now self.old self.new }
-        ensures within { IsWideWithin (count + 1) self.new }
-    {
-        add_products(&mut self.coefficients, pair.lo, row, count);
-        self.error = error_with_product(self.error, pair.lo, row, count);
-    }
+// Returns a bound of the sum's error after a product is added: what it was, the error of the entry times the coefficient,
+// and as much as the entry times 1, by which the coefficient may be above its lower end. The sum has `count` products
+// before.
+#[inline(always)]
+fn error_with_product(own: u128, pair: Rounded, row: &RowModel, count: usize) -> u128
+    requires few { count < 32 }
+    requires own { own ≤ count * 2 ^ 121 }
+    requires pair { IsPair pair }
+    requires row { IsSumRow row.now }
+    ensures equals { result ≡ added_error pair.lo row.now own }
+    ensures small { result ≤ (count + 1) * 2 ^ 121 }
+{
+    let wide = u128::from(pair.lo.unsigned_abs()) * u128::from(row.error);
+    own + wide + u128::from(row.size) + u128::from(row.error)
 }
 
-// Adds `low`, the lower end of a coefficient of the series, times each coefficient of the model `row` to the number at
-// the same place in `numbers`, which holds the sum of `count` such products before.
+// Returns the coefficients of the sum from `from_term` on, as many as a pass sums: the lower ends of the series'
+// coefficients times those of the entries.
 #[inline(always)]
-fn add_products(numbers: &mut [i128; TERMS], low: i64, row: &RowModel, count: usize)
-    requires few { count < 32 }
-    requires length { length numbers.old ≡ terms }
-    requires within { AreNumbersWithin (count * 2 ^ 120) numbers.old }
-    requires row { IsSumRow row.now }
-    requires low { unsigned_abs low ≤ 2 ^ 60 }
-    ensures length { length numbers.new ≡ terms }
-    ensures numbers { (k : ℕ) → k < terms → slice_index_or numbers.new k (pos 0)
-        ≡ added_number low row.now.coefficients numbers.old k }
-    ensures small { AreNumbersWithin ((count + 1) * 2 ^ 120) numbers.new }
+fn half_sum(
+    pairs: &[Rounded],
+    rows: &[RowModel; ENTRIES],
+    from: usize,
+    from_term: usize,
+) -> [i128; HALF]
+    requires pairs { ArePairs pairs.now }
+    requires rows { AreSumRows (length pairs.now) rows.now }
+    requires from { from ≤ length pairs.now }
+    requires from_term { from_term + half ≤ terms }
+    ensures count { length result ≡ half }
+    ensures numbers { AreNumbersOfSum pairs.now rows.now from_term (length pairs.now - from) result }
+    ensures small { AreNumbersWithin half (32 * 2 ^ 120) result }
 {
-    for k in 0..TERMS {
-        numbers[k] = number_with_product(numbers[k], low, row.coefficients[k], count);
+    let mut sums: [i128; HALF] = [0; HALF];
+    for i in 0..pairs.len() - from {
+        let k = pairs.len() - 1 - i;
+        add_products(&mut sums, pairs[k], &rows[k], from_term, i);
+    }
+    sums
+}
+
+// Adds the lower end of a coefficient of the series times each coefficient of the model `row` from `from_term` on to
+// `sums`, each of which has `count` such products before, which keeps it within 128 bits.
+#[inline(always)]
+fn add_products(
+    sums: &mut [i128; HALF],
+    pair: Rounded,
+    row: &RowModel,
+    from_term: usize,
+    count: usize,
+)
+    requires few { count < 32 }
+    requires from_term { from_term + half ≤ terms }
+    requires length { length sums.old ≡ half }
+    requires within { AreNumbersWithin half (count * 2 ^ 120) sums.old }
+    requires row { IsSumRow row.now }
+    requires pair { IsPair pair }
+    ensures length { length sums.new ≡ half }
+    ensures numbers { (k : ℕ) → k < half → slice_index_or sums.new k (pos 0)
+        ≡ coefficient sums.old k +ℤ pair.lo *ℤ coefficient row.now.coefficients (from_term + k) }
+    ensures small { AreNumbersWithin half ((count + 1) * 2 ^ 120) sums.new }
+{
+    for k in 0..HALF {
+        sums[k] = number_with_product(sums[k], pair.lo, row.coefficients[from_term + k], count);
     }
 }
 
@@ -116,17 +159,20 @@ fn product(low: i64, entry: i64) -> i128
     low as i128 * entry as i128
 }
 
-// Returns a bound of the sum's error after a product is added: what it was, the error of the entry times the coefficient,
-// and as much as the entry times 1, by which the coefficient may be above its lower end.
+// Returns the numbers of both halves of a sum, the lower half first.
 #[inline(always)]
-fn error_with_product(own: u128, low: i64, row: &RowModel, count: usize) -> u128
-    requires few { count < 32 }
-    requires own { own ≤ count * 2 ^ 121 }
-    requires low { unsigned_abs low ≤ 2 ^ 60 }
-    requires row { IsSumRow row.now }
-    ensures equals { result ≡ added_error low row.now own }
-    ensures small { result ≤ (count + 1) * 2 ^ 121 }
+fn joined(low: &[i128; HALF], high: &[i128; HALF]) -> [i128; TERMS]
+    requires low { AreNumbersWithin half (32 * 2 ^ 120) low.now }
+    requires high { AreNumbersWithin half (32 * 2 ^ 120) high.now }
+    ensures count { length result ≡ terms }
+    ensures low { (k : ℕ) → k < half → slice_index_or result k (pos 0) ≡ coefficient low.now k }
+    ensures high { (k : ℕ) → k < half → slice_index_or result (half + k) (pos 0)
+        ≡ coefficient high.now k }
 {
-    let wide = u128::from(low.unsigned_abs()) * u128::from(row.error);
-    own + wide + u128::from(row.size) + u128::from(row.error)
+    let mut numbers: [i128; TERMS] = [0; TERMS];
+    for k in 0..HALF {
+        numbers[k] = low[k];
+        numbers[HALF + k] = high[k];
+    }
+    numbers
 }

@@ -81,6 +81,20 @@ module _ (centred : Bool) (q : Asked) (count : ℕ) (entries : List ℕ) (turn o
           let is : turn_of count (slice_index_or entries place 0) place ≡ turn = omega (arith, less, now) in
           absurd (not (subst (λ (k : ℕ). turn_of count (slice_index_or entries k 0) k ≡ turn) (same_place count (slice_index_or entries place 0) place turn own below is first second) is))
 
+-- ---- the columns that are written one after the other
+abbrev pub EnteredBefore : Bool → Asked → ℕ → List ColumnEntry → Type 0
+EnteredBefore centred q count columns = (place : ℕ) → place < count → IsEntryAt centred q columns place
+
+pub entered_next : (centred : Bool) (q : Asked) (columns : List ColumnEntry) (own : ℕ) (c : ColumnEntry) → own < length columns → EnteredBefore centred q own columns
+    → c ≡ entry_of centred q (slice_index_or (columns_of q.view) own 0) → EnteredBefore centred q (own + 1) (slice_set columns own c)
+entered_next centred q columns own c inside before is place less = by (cases_lt place own)
+  where
+    by : (place < own) ⊎ (own ≤ place) → IsEntryAt centred q (slice_set columns own c) place
+    by (inl sooner) = get_or-set_other columns own place c nothing_entered (λ same. omega (arith, sooner, same)) ∙ before place sooner
+    by (inr from) =
+        let same : own ≡ place = omega (arith, less, from) in
+        subst (IsEntryAt centred q (slice_set columns own c)) same (get_or-set_same columns own c nothing_entered inside ∙ is)
+
 -- ---- what is found of a column among the first
 abbrev pub AreFirst : Bool → Asked → List ColumnEntry → ℕ → Type 0
 AreFirst centred q entries n = (n ≡ min (length (columns_of q.view)) KEPT_COLUMNS) × (length entries ≡ KEPT_COLUMNS) × AreEntries centred q entries

@@ -1,5 +1,5 @@
 -- Rows that are kept are those of each granule that they serve.
-use Rattle.std.proofs.Common.{◌≡◌, ◌∙◌, ◌≤◌, ℕ, false, arith, sym, ℤ, unsigned_abs}
+use Rattle.std.proofs.Common.{◌≡◌, ◌∙◌, ◌≤◌, ℕ, arith, sym, ℤ, unsigned_abs}
 use Rattle.std.specs.Prelude.{[]}
 use Rattle.std.proofs.lemmas.Bool.{both_ways}
 use lib.Signed.{lt_z}
@@ -7,7 +7,6 @@ use Rattle.spec_intervals.specs.Enclosure.{middle}
 use Rattle.spec_ephemeris.specs.declared.granule.Granule.{Granule}
 use Rattle.spec_motions.specs.Enclosures.{arguments}
 use Rattle.spec_bodies.specs.declared.quantity.Quantity.{Quantity}
-use Rattle.spec_bodies.specs.declared.quantity.Quantity.TheVariants.{Position, Velocity}
 use Rattle.body_states.specs.declared.column_entries.ColumnQuestion.{ColumnQuestion}
 use Rattle.body_states.specs.declared.granule_span.GranuleSpan.{GranuleSpan}
 use Rattle.body_states.specs.declared.bases.PlainRow.{PlainRow}
@@ -17,12 +16,10 @@ use Rattle.body_states.specs.Bases.{ArePlain, AreAll, AreOver, AreKept, AreSever
 
 -- ---- rows of n entries are rows of fewer
 fewer_plain : (quantity : Quantity) (m n : ℕ) (row : PlainRow) → m ≤ n → ArePlain quantity n row → ArePlain quantity m row
-fewer_plain Position m n row few is = record { unit = is.unit; values = λ k below. is.values k (omega (arith, below, few)) }
-fewer_plain Velocity m n row few is = record { unit = is.unit; values = λ k below. is.values k (omega (arith, below, few)) }
+fewer_plain quantity m n row few is = record { unit = is.unit; values = λ k below. is.values k (omega (arith, below, few)) }
 
-fewer_all : (quantity : Quantity) (m n : ℕ) (rows : Rows) → m ≤ n → AreAll quantity n rows → AreAll quantity m rows
-fewer_all Position m n rows few is = record { plain = fewer_plain Position m n rows.plain few is.plain; steps = λ k below. is.steps k (omega (arith, below, few)) }
-fewer_all Velocity m n rows few is = record { plain = fewer_plain Velocity m n rows.plain few is.plain; steps = λ k below. is.steps k (omega (arith, below, few)) }
+pub fewer_all : (quantity : Quantity) (m n : ℕ) (rows : Rows) → m ≤ n → AreAll quantity n rows → AreAll quantity m rows
+fewer_all quantity m n rows few is = record { plain = fewer_plain quantity m n rows.plain few is.plain; steps = λ k below. is.steps k (omega (arith, below, few)) }
 
 -- ---- arguments are those of each granule with the same start and as long
 same_over : (g h : Granule) (a b c d : ℤ) (row : PlainRow) → g.start ≡ h.start → g.seconds ≡ h.seconds → a ≡ c → b ≡ d → AreOver g a b row → AreOver h c d row
@@ -55,27 +52,15 @@ module _ (own : GranuleSpan) (q : ColumnQuestion) (room : RowRoom) (same : own.t
     not_both : IsSingle own → AreSeveral s → ⊥
     not_both single several = both_ways (lt_z own.times.now.first own.times.now.last) single ((λ i. lt_z (first i) (last i)) ∙ several)
 
-    not_neither : AreSeveral own → IsSingle s → ⊥
-    not_neither several single = both_ways (lt_z own.times.now.first own.times.now.last) ((λ i. lt_z (first i) (last i)) ∙ single) several
-
   pub kept_at : IsSingle own → AreOver own.granule (middle own.times.now.first own.times.now.last) (middle own.times.now.first own.times.now.last) room.centre → ArePlain q.quantity room.entries room.centre → AreKept q room
   kept_at single over row s firsts lasts is = record {
-    centre = λ looked. centre_of s firsts lasts is over row;
-    single = λ one. centre_of s firsts lasts is over row;
+    centre = centre_of s firsts lasts is over row;
     whole = λ several. absurd (not_both s firsts lasts is single several);
   }
 
   pub kept_over : AreOver own.granule (middle own.times.now.first own.times.now.last) (middle own.times.now.first own.times.now.last) room.centre → ArePlain q.quantity room.entries room.centre
       → AreOver own.granule own.times.now.first own.times.now.last room.whole.plain → AreAll q.quantity room.entries room.whole → AreKept q room
   kept_over over row whole rows s firsts lasts is = record {
-    centre = λ looked. centre_of s firsts lasts is over row;
-    single = λ one. centre_of s firsts lasts is over row;
-    whole = λ several. whole_of s firsts lasts is whole rows;
-  }
-
-  pub kept_uncentred : AreSeveral own → q.is_centred ≡ false → AreOver own.granule own.times.now.first own.times.now.last room.whole.plain → AreAll q.quantity room.entries room.whole → AreKept q room
-  kept_uncentred several none whole rows s firsts lasts is = record {
-    centre = λ looked. absurd (both_ways q.is_centred none looked);
-    single = λ one. absurd (not_neither s firsts lasts is several one);
+    centre = centre_of s firsts lasts is over row;
     whole = λ several. whole_of s firsts lasts is whole rows;
   }

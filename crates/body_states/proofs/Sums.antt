@@ -1,10 +1,10 @@
 -- Sums over bases that are made once are the intervals of the series.
-use Rattle.std.proofs.Common.{◌≡◌, ◌∙◌, ℕ, ◌<◌, Bool, true, false, arith, refl, sym, List, ℤ, ◌≤ℤ◌}
+use Rattle.std.proofs.Common.{◌≡◌, ◌∙◌, ℕ, ◌<◌, true, false, arith, refl, List, ℤ, ◌≤ℤ◌}
 use Rattle.std.proofs.lemmas.Int.{ints}
 use lib.Signed.{lt_z}
 use Rattle.spec_chebyshev.specs.declared.ends.Ival62.{Ival62}
 use Rattle.spec_numbers.proofs.Order.{lin}
-use Rattle.spec_intervals.specs.Interval.{Interval, zero_interval}
+use Rattle.spec_intervals.specs.Interval.{Interval}
 use Rattle.spec_intervals.specs.Enclosure.{Enclosure, enclosure, middle}
 use Rattle.spec_intervals.proofs.Centred.{middle_between}
 use Rattle.spec_ephemeris.specs.Granules.{series_of}
@@ -14,7 +14,6 @@ use Rattle.spec_motions.proofs.GranuleSeries.{IsSeries-of, IsSpan-of}
 use Rattle.spec_bodies.specs.declared.quantity.Quantity.{Quantity}
 use Rattle.spec_bodies.specs.declared.quantity.Quantity.TheVariants.{Position, Velocity}
 use Rattle.spec_bodies.specs.Views.{value_interval, step_interval}
-use Rattle.event_expr.proofs.Steps.{enclosure-single}
 use Rattle.body_states.specs.declared.granule_span.GranuleSpan.{GranuleSpan}
 use Rattle.body_states.specs.declared.bases.PlainRow.{PlainRow}
 use Rattle.body_states.specs.declared.bases.Rows.{Rows}
@@ -45,21 +44,11 @@ middle_alone a b ordered single =
     let upto = between.1 in
     (omega (arith, ints, lin, ordered, single, from, upto), omega (arith, ints, lin, ordered, single))
 
-no_step : (quantity : Quantity) (s : Series) (a b : ℤ) → lt_z a b ≡ false → zero_interval ≡ step_interval quantity s a b
-no_step Position s a b single = rw single refl
-no_step Velocity s a b single = rw single refl
-
 pub single_parts : (s : GranuleSpan) (quantity : Quantity) (axis : ℕ) → IsSingle s → (t : Interval) (made : Enclosure)
     → t ≡ value_interval quantity (series_of s.granule axis) (middle s.times.now.first s.times.now.last) (middle s.times.now.first s.times.now.last)
-    → ((plain step : Interval) → made ≡ enclosure s.times.now.first s.times.now.last t plain step) → (centred : Bool) → made ≡ granule_parts s centred quantity axis
-single_parts s quantity axis single t made mid is true =
+    → ((plain step : Interval) → made ≡ enclosure s.times.now.first s.times.now.last t plain step) → made ≡ granule_parts s true quantity axis
+single_parts s quantity axis single t made mid is =
     is _ _ ∙ λ i. enclosure s.times.now.first s.times.now.last (mid i) (value_interval quantity (series_of s.granule axis) s.times.now.first s.times.now.last) (step_interval quantity (series_of s.granule axis) s.times.now.first s.times.now.last)
-single_parts s quantity axis single t made mid is false =
-    let series = series_of s.granule axis in
-    let alone = middle_alone s.times.now.first s.times.now.last s.order single in
-    let own = mid ∙ λ i. value_interval quantity series (alone.0 i) ((alone.0 ∙ sym alone.1) i) in
-    is t t ∙ sym (enclosure-single s.times.now.first s.times.now.last single t t t zero_interval refl)
-    ∙ λ i. record { mid = own i; range = own i; step = no_step quantity series s.times.now.first s.times.now.last single i }
 
 -- ---- sums by the coefficients of an axis are the intervals of its series
 module _ (s : GranuleSpan) (quantity : Quantity) (axis : ℕ) (terms : List Ival62) (are : terms ≡ coefficients_of (series_of s.granule axis)) (t : Interval) where

@@ -1,5 +1,5 @@
 -- What is seen of a view over one span of times.
-use Rattle.std.specs.Prelude.{◌≡◌, ℤ, false, true, List, length}
+use Rattle.std.specs.Prelude.{◌≡◌, ℤ, true, List, length}
 use Rattle.spec_intervals.specs.Interval.{Interval}
 use Rattle.spec_intervals.specs.Enclosure.{Enclosure}
 use Rattle.spec_expressions.specs.Term.{Term, enclosure_of}
@@ -44,7 +44,7 @@ point_in s = point_at s.states.now s.times.now.first
 
 -- the first columns in use are made along some axes, if any
 abbrev pub IsWrittenAt : SingleTime → Quantity → Axes → List ColumnEntry → Type 0
-IsWrittenAt s quantity axes columns = AreWritten false (record { view = s.states.now; quantity = quantity; axes = axes; first = s.times.now.first; last = s.times.now.last }) columns
+IsWrittenAt s quantity axes columns = AreWritten true (record { view = s.states.now; quantity = quantity; axes = axes; first = s.times.now.first; last = s.times.now.last }) columns
 
 -- there is one time, at which every column in use can be read
 pub record IsSingle (s : SingleTime) : Type 0 where

@@ -75,9 +75,6 @@ nothing_entered = record { number = 0; along = nothing_along }
 abbrev pub entry_of : Bool → Asked → ℕ → ColumnEntry
 entry_of centred q number = record { number = number; along = wanted_along q.axes (column_parts centred q number) }
 
-abbrev pub asked_entry : View → ColumnQuestion → ℕ → ColumnEntry
-asked_entry v q number = entry_of q.is_centred (asked_of v q) number
-
 abbrev pub kept_columns : View → List ℕ
 kept_columns v = take KEPT_COLUMNS (columns_of v)
 

@@ -11,14 +11,14 @@ use spec_bodies::Quantity;
 use spec_chebyshev::Ival62;
 
 /// The row of a quantity's basis over some arguments: T_0, T_1, .. for positions, slopes of T_1, .. for velocities.
-#[derive(Drop)]
+#[derive(Clone, Copy)]
 pub(crate) struct PlainRow {
     pub arguments: Ival62,
     pub values: Row,
 }
 
 /// The rows of a quantity's basis and of its changes: these are Q for positions, and changes of slopes for velocities.
-#[derive(Drop)]
+#[derive(Clone, Copy)]
 pub(crate) struct Rows {
     pub plain: PlainRow,
     pub steps: Row,
@@ -27,7 +27,9 @@ pub(crate) struct Rows {
 impl PlainRow {
     /// Returns a row whose entries have not been made yet, with the single argument 0.
     #[inline(always)]
-    pub fn none() -> PlainRow {
+    pub fn none() -> PlainRow
+        ensures { IsArguments result.arguments }
+    {
         PlainRow {
             arguments: Ival62 { lo: 0, hi: 0 },
             values: empty_row(),
@@ -53,7 +55,9 @@ impl PlainRow {
 impl Rows {
     /// Returns two rows whose entries have not been made yet, with the single argument 0.
     #[inline(always)]
-    pub fn none() -> Rows {
+    pub fn none() -> Rows
+        ensures { IsArguments result.plain.arguments }
+    {
         Rows {
             plain: PlainRow::none(),
             steps: empty_row(),

@@ -22,11 +22,9 @@ pub(crate) struct ColumnEntry {
     pub along: AxisEntries,
 }
 
-/// A question for a quantity of columns along some axes of the files, over a span of times. If it is centred, the
-/// answer is an enclosure with the value in the middle of the times; if not, the range stands for that value as well.
+/// A question for a quantity of columns along some axes of the files, over a span of times.
 #[derive(Clone, Copy)]
 pub(crate) struct ColumnQuestion<'q> {
-    pub is_centred: bool,
     pub quantity: Quantity,
     pub axes: Axes,
     pub times: &'q TimeSpan,

@@ -1,15 +1,18 @@
 // What the columns in use are over some times, as it is calculated without a look at the middle.
-ghost use Rattle.std.specs.Prelude.{◌≡◌, ◌<◌};
+ghost use Rattle.std.specs.Prelude.{◌≡◌, ◌<◌, false, length};
 ghost use Rattle.spec_bodies.specs.Reading.{IsUsable};
 ghost use Rattle.spec_bodies.specs.Views.{Fits};
-ghost use Rattle.body_states.specs.Ranges.{column_range};
+ghost use Rattle.body_states.specs.Dividers.{granule_seconds};
+ghost use Rattle.body_states.specs.Ranges.{AreWritten, asked_of, column_range, entry_of};
 
 use crate::column_entries::{ColumnEntry, ColumnQuestion};
+use crate::columns::has_any_axis;
+use crate::range_rows::RangeRows;
 use crate::sources::KEPT_COLUMNS;
 use crate::states::BodyStates;
 use event_expr::Axes;
 use event_expr::rules::TimeSpan;
-use ival_core::Ival;
+use ival_core::{Divider, Ival};
 use spec_bodies::Quantity;
 use std::marker::Model;
 
@@ -37,20 +40,21 @@ impl<'s, 'e> Model for ColumnRanges<'s, 'e> {
 
     ghost view = { λ r. asked_of r.states.now r.question };
 
-    ghost invariant = { λ r. AreWritten r.question.is_centred (asked_of r.states.now r.question) r.columns
+    ghost invariant = { λ r. AreWritten false (asked_of r.states.now r.question) r.columns
         × (length r.columns ≡ 4)
-        × (r.question.is_centred ≡ false)
         × Fits r.states.now r.question.times.now.first r.question.times.now.last };
 }
 
 impl<'e> BodyStates<'e> {
     /// Returns the ranges of a quantity of the columns in use over some times within one granule of each. The first
-    /// four are evaluated at once along `axes`, which are those of the files; all else when it is asked for.
+    /// four are evaluated at once along `axes`, which are those of the files; all else when it is asked for. Rows that
+    /// are needed at once are kept in `rows` for later calls, of any states.
     pub fn column_ranges<'s>(
         &'s self,
         quantity: Quantity,
         axes: Axes,
         times: &'s TimeSpan,
+        rows: &mut RangeRows,
     ) -> ColumnRanges<'s, 'e>
         requires { Fits self.now times.now.first times.now.last }
         ensures { result ≡ record {
@@ -62,18 +66,71 @@ impl<'e> BodyStates<'e> {
         } }
     {
         let question = ColumnQuestion {
-            is_centred: false,
             quantity,
             axes,
             times,
         };
         let mut columns = [ColumnEntry::none(); KEPT_COLUMNS];
-        self.write_entries(&question, &mut columns);
+        self.write_ranges(&question, rows, &mut columns);
         ColumnRanges {
             states: self,
             question,
             columns,
         }
+    }
+
+    // Writes the ranges of the first four columns in use along the question's axes, or of all if there are fewer. If the
+    // question has no axis, nothing is written, and no row is made.
+    fn write_ranges(
+        &self,
+        question: &ColumnQuestion,
+        rows: &mut RangeRows,
+        columns: &mut [ColumnEntry; KEPT_COLUMNS],
+    )
+        requires { Fits self.now question.now.times.now.first question.now.times.now.last }
+        ensures entries { AreWritten false (asked_of self.now question.now) columns.new }
+        ensures count { length columns.new ≡ 4 }
+    {
+        if !has_any_axis(question.axes) {
+            return;
+        }
+        let numbers = self.columns();
+        let dividers = self.dividers();
+        let entries = self.entries();
+        let count = numbers.len().min(KEPT_COLUMNS);
+        for place in 0..count {
+            let column = &mut columns[place];
+            self.write_range(
+                numbers[place],
+                &dividers[place],
+                entries[place],
+                question,
+                rows,
+                column,
+            );
+        }
+    }
+
+    // Writes a column's ranges along the question's axes. `divider` divides by the seconds of its granules, and new rows
+    // get at least `entries` entries (if at most 32).
+    #[inline(always)]
+    fn write_range(
+        &self,
+        number: usize,
+        divider: &Divider,
+        entries: usize,
+        question: &ColumnQuestion,
+        rows: &mut RangeRows,
+        column: &mut ColumnEntry,
+    )
+        requires fits { Fits self.now question.now.times.now.first question.now.times.now.last }
+        requires usable { IsUsable self.now number }
+        requires divider { divider.now ≡ granule_seconds self.now.ephemeris number }
+        ensures { column.new ≡ entry_of false (asked_of self.now question.now) number }
+    {
+        column.number = number;
+        let span = self.granule_span(number, question.times, divider);
+        span.write_ranges_along(question, entries, rows, &mut column.along);
     }
 }
 
@@ -86,7 +143,7 @@ impl<'s, 'e> ColumnRanges<'s, 'e> {
     {
         let parts = self
             .states
-            .column_enclosure(&self.question, &self.columns, number, axis);
+            .column_enclosure(false, &self.question, &self.columns, number, axis);
         ColumnRange {
             values: parts.range,
             changes: parts.step,

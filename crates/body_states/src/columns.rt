@@ -6,7 +6,7 @@ ghost use Rattle.spec_bodies.specs.Views.{Fits};
 ghost use Rattle.event_expr.specs.Leaves.{has_axis};
 ghost use Rattle.body_states.specs.Bases.{AreKept};
 ghost use Rattle.body_states.specs.Dividers.{granule_seconds};
-ghost use Rattle.body_states.specs.Ranges.{AreEntries, AreWritten, asked_entry, asked_of, column_parts, is_any, kept_columns, turn_of};
+ghost use Rattle.body_states.specs.Ranges.{AreEntries, AreWritten, asked_of, column_parts, entry_of, is_any, kept_columns, turn_of};
 
 use crate::bases::RowRoom;
 use crate::column_entries::{ColumnEntry, ColumnQuestion, find_axis_entries};
@@ -26,7 +26,7 @@ impl<'e> BodyStates<'e> {
         columns: &mut [ColumnEntry; KEPT_COLUMNS],
     )
         requires { Fits self.now question.now.times.now.first question.now.times.now.last }
-        ensures entries { AreWritten question.now.is_centred (asked_of self.now question.now) columns.new }
+        ensures entries { AreWritten true (asked_of self.now question.now) columns.new }
         ensures count { length columns.new ≡ 4 }
     {
         if has_any_axis(question.axes) {
@@ -39,7 +39,7 @@ impl<'e> BodyStates<'e> {
     #[inline(never)]
     fn write_wanted(&self, question: &ColumnQuestion, columns: &mut [ColumnEntry; KEPT_COLUMNS])
         requires { Fits self.now question.now.times.now.first question.now.times.now.last }
-        ensures entries { AreEntries question.now.is_centred (asked_of self.now question.now) columns.new }
+        ensures entries { AreEntries true (asked_of self.now question.now) columns.new }
         ensures count { length columns.new ≡ 4 }
     {
         let numbers = self.columns();
@@ -81,7 +81,7 @@ impl<'e> BodyStates<'e> {
         requires divider { divider.now ≡ granule_seconds self.now.ephemeris number }
         requires kept { AreKept question.now room.old }
         ensures kept { AreKept question.now room.new }
-        ensures entry { column.new ≡ asked_entry self.now question.now number }
+        ensures entry { column.new ≡ entry_of true (asked_of self.now question.now) number }
     {
         column.number = number;
         let span = self.granule_span(number, question.times, divider);
@@ -91,15 +91,16 @@ impl<'e> BodyStates<'e> {
     // Returns a column's enclosure along an axis, 0 for x, from the entries, or None if these lack the column or axis.
     fn kept_enclosure(
         &self,
+        is_centred: bool,
         question: &ColumnQuestion,
         columns: &[ColumnEntry; KEPT_COLUMNS],
         number: usize,
         axis: usize,
     ) -> Option<Enclosure>
-        requires entries { AreEntries question.now.is_centred (asked_of self.now question.now) columns.now }
+        requires entries { AreEntries is_centred (asked_of self.now question.now) columns.now }
         requires axis { axis < 3 }
         ensures right { IfSome result (λ parts. parts
-            ≡ column_parts question.now.is_centred (asked_of self.now question.now) number axis) }
+            ≡ column_parts is_centred (asked_of self.now question.now) number axis) }
         ensures made { Contains (kept_columns self.now) number
             → has_axis question.now.axes axis ≡ true → IsSome result }
     {
@@ -111,43 +112,55 @@ impl<'e> BodyStates<'e> {
     }
 
     /// Returns a column's enclosure along an axis, 0 for x: from the entries, or evaluated now if it is not among them.
+    /// If it is centred, it has the value in the middle of the times; if not, the range stands for that value as well.
     pub(crate) fn column_enclosure(
         &self,
+        is_centred: bool,
         question: &ColumnQuestion,
         columns: &[ColumnEntry; KEPT_COLUMNS],
         number: usize,
         axis: usize,
     ) -> Enclosure
         requires fits { Fits self.now question.now.times.now.first question.now.times.now.last }
-        requires entries { AreWritten question.now.is_centred (asked_of self.now question.now) columns.now }
+        requires entries { AreWritten is_centred (asked_of self.now question.now) columns.now }
         requires usable { IsUsable self.now number }
         requires axis { axis < 3 }
-        ensures { result ≡ column_parts question.now.is_centred (asked_of self.now question.now) number axis }
+        ensures { result ≡ column_parts is_centred (asked_of self.now question.now) number axis }
     {
         if !has_any_axis(question.axes) {
-            return self.evaluate_column(question, number, axis);
+            return self.evaluate_column(is_centred, question, number, axis);
         }
-        match self.kept_enclosure(question, columns, number, axis) {
+        match self.kept_enclosure(is_centred, question, columns, number, axis) {
             Some(parts) => parts,
-            None => self.evaluate_column(question, number, axis),
+            None => self.evaluate_column(is_centred, question, number, axis),
         }
     }
 
     // Evaluates a column in use along an axis, counted from 0 for x, anew from the granule in which the times lie.
     #[inline(never)]
-    fn evaluate_column(&self, question: &ColumnQuestion, number: usize, axis: usize) -> Enclosure
+    fn evaluate_column(
+        &self,
+        is_centred: bool,
+        question: &ColumnQuestion,
+        number: usize,
+        axis: usize,
+    ) -> Enclosure
         requires fits { Fits self.now question.now.times.now.first question.now.times.now.last }
         requires usable { IsUsable self.now number }
         requires axis { axis < 3 }
-        ensures { result ≡ column_parts question.now.is_centred (asked_of self.now question.now) number axis }
+        ensures { result ≡ column_parts is_centred (asked_of self.now question.now) number axis }
     {
         let divider = divider_of(self.ephemeris, number);
         let span = self.granule_span(number, question.times, &divider);
-        span.enclosure_by_new_rows(question, axis)
+        if is_centred {
+            span.enclosure_by_new_rows(question, axis)
+        } else {
+            span.range_by_new_rows(question.quantity, axis)
+        }
     }
 
-    // Returns a column's granule in which some times lie, with these times and the divider by the granule's seconds.
-    fn granule_span<'a>(
+    /// Returns a column's granule in which some times lie, with these times and the divider by the granule's seconds.
+    pub(crate) fn granule_span<'a>(
         &'a self,
         number: usize,
         times: &'a TimeSpan,

@@ -1,6 +1,9 @@
 // What a quantity is within a granule, with one basis for all axes and all granules that begin and end together.
-ghost use Rattle.std.specs.Prelude.{◌≡◌, ◌<◌, ◌≤◌, Bool, true, false, length};
+ghost use Rattle.std.specs.Prelude.{◌≡◌, ◌<◌, ◌≤◌, ℕ, true, length};
+ghost use Rattle.spec_chebyshev.specs.Rows.{IsArguments};
 ghost use Rattle.spec_intervals.specs.Enclosure.{middle};
+ghost use Rattle.spec_ephemeris.specs.Granules.{series_of};
+ghost use Rattle.spec_motions.specs.Enclosures.{arguments};
 ghost use Rattle.body_states.specs.Bases.{ArePlain, AreAll, AreKept, AreOver, AreRows, IsCentre, IsServed, IsWhole, IsSingle, AreSeveral, value_over, step_over};
 ghost use Rattle.body_states.specs.Ranges.{granule_parts, if_wanted, wanted_along};
 
@@ -11,6 +14,7 @@ use cheby_difference::{position_step_over_row, velocity_over_row, velocity_step_
 use cheby_enclose::{AxisCoefficients, argument_at, arguments_by, position_over_row};
 use ival_core::{Divider, Enclosure, Ival};
 use spec_bodies::Quantity;
+use spec_chebyshev::Ival62;
 
 impl<'g> GranuleSpan<'g> {
     /// Writes the enclosures of the question's quantity along the question's axes, and none along the others. If the
@@ -27,60 +31,57 @@ impl<'g> GranuleSpan<'g> {
         requires kept { AreKept question.now room.old }
         ensures kept { AreKept question.now room.new }
         ensures along { out.new ≡ wanted_along question.now.axes
-            (granule_parts self.now question.now.is_centred question.now.quantity) }
+            (granule_parts self.now true question.now.quantity) }
     {
         self.keep_rows(question, entries, room);
-        out.x = self.wanted_enclosure(question.axes.x, question, 0, room);
-        out.y = self.wanted_enclosure(question.axes.y, question, 1, room);
-        out.z = self.wanted_enclosure(question.axes.z, question, 2, room);
+        out.x = self.wanted_enclosure(question.axes.x, question.quantity, 0, room);
+        out.y = self.wanted_enclosure(question.axes.y, question.quantity, 1, room);
+        out.z = self.wanted_enclosure(question.axes.z, question.quantity, 2, room);
     }
 
     /// Returns the enclosure of the question's quantity along any axis, 0 for x, by rows that are made for this call.
     pub fn enclosure_by_new_rows(&self, question: &ColumnQuestion, axis: usize) -> Enclosure
         requires times { self.now.times.now ≡ question.now.times.now }
         requires axis { axis < 3 }
-        ensures { result ≡ granule_parts self.now question.now.is_centred question.now.quantity axis }
+        ensures { result ≡ granule_parts self.now true question.now.quantity axis }
     {
         let mut room = RowRoom::new();
         self.keep_rows(question, 0, &mut room);
-        self.enclosure_by_rows(question, axis, &room)
+        self.enclosure_by_rows(question.quantity, axis, &room)
     }
 
-    // Returns the enclosure of the question's quantity along an axis, counted from 0 for x, or None if not wanted.
+    // Returns the enclosure of a quantity along an axis, counted from 0 for x, or None if not wanted.
     #[inline(always)]
     fn wanted_enclosure(
         &self,
         is_wanted: bool,
-        question: &ColumnQuestion,
+        quantity: Quantity,
         axis: usize,
         room: &RowRoom,
     ) -> Option<Enclosure>
         requires axis { axis < 3 }
-        requires rows { AreRows self.now question.now.is_centred question.now.quantity room.now }
-        ensures { result ≡ if_wanted is_wanted
-            (granule_parts self.now question.now.is_centred question.now.quantity axis) }
+        requires rows { AreRows self.now quantity room.now }
+        ensures { result ≡ if_wanted is_wanted (granule_parts self.now true quantity axis) }
     {
         if is_wanted {
-            Some(self.enclosure_by_rows(question, axis, room))
+            Some(self.enclosure_by_rows(quantity, axis, room))
         } else {
             None
         }
     }
 
-    // Returns the enclosure of the question's quantity along an axis, counted from 0 for x, by rows that were made
-    // for this granule. At a single time, and if the question is not centred, less is calculated.
+    // Returns the enclosure of a quantity along an axis, counted from 0 for x, by rows that were made for this granule.
+    // At a single time less is calculated.
     #[inline(always)]
-    fn enclosure_by_rows(&self, question: &ColumnQuestion, axis: usize, room: &RowRoom) -> Enclosure
+    fn enclosure_by_rows(&self, quantity: Quantity, axis: usize, room: &RowRoom) -> Enclosure
         requires axis { axis < 3 }
-        requires rows { AreRows self.now question.now.is_centred question.now.quantity room.now }
-        ensures { result ≡ granule_parts self.now question.now.is_centred question.now.quantity axis }
+        requires rows { AreRows self.now quantity room.now }
+        ensures { result ≡ granule_parts self.now true quantity axis }
     {
         if !self.times.has_several() {
-            self.single_time_enclosure(question.quantity, axis, &room.centre)
-        } else if question.is_centred {
-            self.centred_enclosure(question.quantity, axis, room)
+            self.single_time_enclosure(quantity, axis, &room.centre)
         } else {
-            self.uncentred_enclosure(question.quantity, axis, &room.whole)
+            self.centred_enclosure(quantity, axis, room)
         }
     }
 
@@ -101,31 +102,13 @@ impl<'g> GranuleSpan<'g> {
         self.times.wide(mid, range, step)
     }
 
-    // Returns a quantity's enclosure over several times along an axis, with the range standing for the middle as well.
-    #[inline(never)]
-    fn uncentred_enclosure(&self, quantity: Quantity, axis: usize, whole: &Rows) -> Enclosure
-        requires axis { axis < 3 }
-        requires several { AreSeveral self.now }
-        requires whole { IsWhole self.now quantity whole.now }
-        ensures { result ≡ granule_parts self.now false quantity axis }
-    {
-        let terms = AxisCoefficients::of(&self.granule, axis);
-        let range = value_over(quantity, &terms, &whole.plain, self.divider);
-        let step = step_over(quantity, &terms, whole, self.divider);
-        Enclosure {
-            mid: range,
-            range,
-            step,
-        }
-    }
-
     // Returns a quantity's enclosure along an axis at a single time: middle and range are its value, the change is 0.
     #[inline(never)]
     fn single_time_enclosure(&self, quantity: Quantity, axis: usize, centre: &PlainRow) -> Enclosure
         requires axis { axis < 3 }
         requires single { IsSingle self.now }
         requires centre { IsCentre self.now quantity centre.now }
-        ensures { (centred : Bool) → result ≡ granule_parts self.now centred quantity axis }
+        ensures { result ≡ granule_parts self.now true quantity axis }
     {
         let terms = AxisCoefficients::of(&self.granule, axis);
         let mid = value_over(quantity, &terms, centre, self.divider);
@@ -138,14 +121,14 @@ impl<'g> GranuleSpan<'g> {
         requires times { self.now.times.now ≡ question.now.times.now }
         requires kept { AreKept question.now room.old }
         ensures kept { AreKept question.now room.new }
-        ensures rows { AreRows self.now question.now.is_centred question.now.quantity room.new }
+        ensures rows { AreRows self.now question.now.quantity room.new }
     {
         if !room.has_rows_for(&self.granule) {
             self.make_rows(question, entries, room);
         }
     }
 
-    // Makes the rows a question needs: over all times if several, in the middle if it is centred or the time is single.
+    // Makes the rows that a question needs: that in the middle of the times, and those over all if there are several.
     #[inline(always)]
     fn make_rows(&self, question: &ColumnQuestion, entries: usize, room: &mut RowRoom)
         requires { self.now.times.now ≡ question.now.times.now }
@@ -154,20 +137,16 @@ impl<'g> GranuleSpan<'g> {
     {
         let made = self.entries_to_make(entries);
         room.turn_to(&self.granule, made);
-        if !self.times.has_several() {
-            self.make_centre(question.quantity, made, &mut room.centre);
-        } else if question.is_centred {
-            self.make_centre(question.quantity, made, &mut room.centre);
-            self.make_whole(question.quantity, made, &mut room.whole);
-        } else {
+        self.make_centre(question.quantity, made, &mut room.centre);
+        if self.times.has_several() {
             self.make_whole(question.quantity, made, &mut room.whole);
         }
     }
 
-    // Returns how many entries to make: as many as `entries`, but at least the granule's number of coefficients, and
-    // just that number if more than 32 entries, the length of a row, are wanted.
+    /// Returns how many entries to make: as many as `entries`, but at least the granule's number of coefficients, and
+    /// just that number if more than 32 entries, the length of a row, are wanted.
     #[inline(always)]
-    fn entries_to_make(&self, entries: usize) -> usize
+    pub fn entries_to_make(&self, entries: usize) -> usize
         ensures enough { self.now.granule.n ≤ result }
         ensures few { result ≤ 32 }
     {
@@ -190,17 +169,27 @@ impl<'g> GranuleSpan<'g> {
         row.make_entries(quantity, argument, n);
     }
 
-    // Makes the rows of a quantity's basis and of its changes over all times, as far as sums over `n` terms read them.
+    /// Makes the rows of a quantity's basis and of its changes over all times, as far as sums over `n` terms read them.
     #[inline(always)]
-    fn make_whole(&self, quantity: Quantity, n: usize, rows: &mut Rows)
+    pub fn make_whole(&self, quantity: Quantity, n: usize, rows: &mut Rows)
         requires few { n ≤ 32 }
         ensures over { let times = self.now.times.now in
             AreOver self.now.granule times.first times.last rows.new.plain }
         ensures rows { AreAll quantity n rows.new }
     {
-        let (first, last) = (self.times.first(), self.times.last());
-        let arguments = arguments_by(&self.granule, first, last, self.divider);
+        let arguments = self.arguments();
         rows.make_entries(quantity, arguments, n);
+    }
+
+    /// Returns the interval of the granule's arguments over all times, in units of 2^-60.
+    #[inline(always)]
+    pub fn arguments(&self) -> Ival62
+        ensures over { let times = self.now.times.now in
+            (axis : ℕ) → result ≡ arguments (series_of self.now.granule axis) times.first times.last }
+        ensures unit { IsArguments result }
+    {
+        let (first, last) = (self.times.first(), self.times.last());
+        arguments_by(&self.granule, first, last, self.divider)
     }
 
     // Returns the time halfway between the first and the last, rounded down to a whole unit of time.
@@ -213,9 +202,9 @@ impl<'g> GranuleSpan<'g> {
     }
 }
 
-// Returns the interval of a quantity along one axis, in km or km per unit of time, over the arguments of a basis's row.
+/// Returns the interval of a quantity along one axis, in km or km per unit of time, over the arguments of a basis's row.
 #[inline(always)]
-fn value_over(
+pub(crate) fn value_over(
     quantity: Quantity,
     terms: &AxisCoefficients,
     row: &PlainRow,
@@ -230,9 +219,14 @@ fn value_over(
     }
 }
 
-// Returns the interval of a quantity's change in a unit of time along one axis, in km or km per unit of time.
+/// Returns the interval of a quantity's change in a unit of time along one axis, in km or km per unit of time.
 #[inline(always)]
-fn step_over(quantity: Quantity, terms: &AxisCoefficients, rows: &Rows, divider: &Divider) -> Ival
+pub(crate) fn step_over(
+    quantity: Quantity,
+    terms: &AxisCoefficients,
+    rows: &Rows,
+    divider: &Divider,
+) -> Ival
     requires rows { AreAll quantity (length terms.now) rows.now }
     ensures { result ≡ step_over quantity terms.now rows.now.plain.arguments divider.now }
 {

@@ -3,7 +3,8 @@
 //! In comes a checked ephemeris with two targets, an observer and a frame; out come enclosures of the coordinates of
 //! the targets' positions and velocities over spans of times in which no granule of a column in use begins. They hold
 //! the exact values, with the same bits on every machine. A snapshot encloses terms over one span, and makes each basis
-//! once. How bodies are made of columns is said by lists of steps (`column_steps`). No call allocates or fails.
+//! once. How bodies are made of columns is said by lists of steps (`column_steps`). Ranges are made of rows that are kept
+//! from one span to the next, in room that the caller makes once (`RangeRows`). No call allocates or fails.
 #![tactic(auto)]
 
 mod answers;
@@ -14,7 +15,10 @@ mod columns;
 mod evaluation;
 mod factors;
 mod granule_span;
+mod made_rows;
 mod points;
+mod range_rows;
+mod ranges;
 mod single_time;
 mod snapshots;
 mod sources;
@@ -23,6 +27,7 @@ mod states;
 pub use column_ranges::{ColumnRange, ColumnRanges};
 pub use eph_model::{Body, Ephemeris};
 pub use event_expr::States;
+pub use range_rows::RangeRows;
 pub use snapshots::{Snapshot, blank};
 pub use spec_bodies::{Factor, Frame, Quantity, Source};
 pub use states::BodyStates;

@@ -30,7 +30,6 @@ impl<'e> BodyStates<'e> {
         let velocity_axes = self.own_axes(wanted.first_velocity.union(wanted.second_velocity));
         let mut positions = [ColumnEntry::none(); KEPT_COLUMNS];
         let question = ColumnQuestion {
-            is_centred: false,
             quantity: Quantity::Position,
             axes: position_axes,
             times,
@@ -63,7 +62,6 @@ impl<'t, 'e> SingleTime<'t, 'e> {
     {
         let mut velocities = [ColumnEntry::none(); KEPT_COLUMNS];
         let question = ColumnQuestion {
-            is_centred: false,
             quantity: Quantity::Velocity,
             axes,
             times: self.times,
@@ -105,13 +103,12 @@ impl<'t, 'e> Arithmetic for SingleTime<'t, 'e> {
     fn column(&self, quantity: Quantity, number: usize, axis: usize) -> Ival {
         let (axes, columns) = self.written_entries(quantity);
         let question = ColumnQuestion {
-            is_centred: false,
             quantity,
             axes,
             times: self.times,
         };
         self.states
-            .column_enclosure(&question, columns, number, axis)
+            .column_enclosure(true, &question, columns, number, axis)
             .mid
     }
 

@@ -70,14 +70,12 @@ impl<'e> BodyStates<'e> {
         let mut positions = [ColumnEntry::none(); KEPT_COLUMNS];
         let mut velocities = [ColumnEntry::none(); KEPT_COLUMNS];
         let question = ColumnQuestion {
-            is_centred: true,
             quantity: Quantity::Position,
             axes: position_axes,
             times: &times,
         };
         self.write_entries(&question, &mut positions);
         let question = ColumnQuestion {
-            is_centred: true,
             quantity: Quantity::Velocity,
             axes: velocity_axes,
             times: &times,
@@ -126,13 +124,12 @@ impl<'s, 'e> Arithmetic for Snapshot<'s, 'e> {
     fn column(&self, quantity: Quantity, number: usize, axis: usize) -> Enclosure {
         let (axes, columns) = self.written_entries(quantity);
         let question = ColumnQuestion {
-            is_centred: true,
             quantity,
             axes,
             times: &self.times,
         };
         self.states
-            .column_enclosure(&question, columns, number, axis)
+            .column_enclosure(true, &question, columns, number, axis)
     }
 
     fn zero(&self) -> Enclosure {

@@ -1,11 +1,5 @@
-use Rattle.std.proofs.Common.{rules, ◌∙◌, FitsSigned, w64}
-use Rattle.std.proofs.lemmas.Int.{to_z-of_z}
+use Rattle.std.proofs.Common.{◌∙◌}
 use Rattle.body_states.proofs.granule_span.GranuleSpan.make_whole.Goals as goal
 
 pub returns-clause-over : goal.returns-clause-over
-returns-clause-over c =
-    let fa : FitsSigned w64 c.first-first.result = search rules in
-    let fb : FitsSigned w64 c.last-last.result = search rules in
-    let sa = to_z-of_z w64 c.first-first.result fa ∙ c.first-first.ensures in
-    let sb = to_z-of_z w64 c.last-last.result fb ∙ c.last-last.ensures in
-    λ axis. c.make_entries.ensures.arguments ∙ (rw (sa, sb) at (c.arguments_by-arguments.ensures.equals axis))
+returns-clause-over c = λ axis. c.make_entries.ensures.arguments ∙ c.arguments-arguments.ensures.over axis

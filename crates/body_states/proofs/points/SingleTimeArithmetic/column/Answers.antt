@@ -1,8 +1,10 @@
-use Rattle.std.proofs.Common.{◌∙◌, ap}
+use Rattle.std.proofs.Common.{◌∙◌, ap, sym}
 use Rattle.spec_intervals.specs.Enclosure.{Enclosure}
 use Rattle.spec_ephemeris.specs.Granules.{series_at}
-use Rattle.spec_bodies.specs.Views.{value_interval}
+use Rattle.spec_bodies.specs.Views.{series_enclosure}
+use Rattle.spec_steps.specs.ColumnTerms.{column}
 use Rattle.spec_steps.proofs.Parts.{column_seen, seen_readable}
+use Rattle.body_states.proofs.Alone.{alone}
 use Rattle.body_states.proofs.points.SingleTimeArithmetic.column.Goals as goal
 
 pub column_enclosure-requires : goal.column_enclosure-requires
@@ -14,5 +16,8 @@ column_enclosure-requires c =
 pub returns : goal.returns
 returns c =
     let s = c.args.self.now in
-    ap (λ (e : Enclosure). e.mid) c.column_enclosure.ensures
-    ∙ λ i. value_interval c.args.quantity (series_at s.states.now.ephemeris c.args.number c.args.axis s.times.now.first) s.times.now.first (c.requires.ready.alone i)
+    let t = s.times.now.first in
+    ap (λ (e : Enclosure). e.mid) (
+    c.column_enclosure.ensures
+    ∙ (λ i. series_enclosure c.args.quantity t (c.requires.ready.alone i) (series_at s.states.now.ephemeris c.args.number c.args.axis t))
+    ∙ sym (alone s.states.now t (column c.args.quantity c.args.number c.args.axis)))

@@ -1,4 +1,4 @@
-use Rattle.std.proofs.Common.{◌∙◌}
+use Rattle.std.proofs.Common.{◌∙◌, true}
 use Rattle.body_states.specs.Ranges.{series_parts}
 use Rattle.body_states.proofs.Entries.{same_wanted}
 use Rattle.body_states.proofs.states.BodyStates.write_entry.Goals as goal
@@ -9,5 +9,5 @@ returns-clause-entry c =
     let along = c.write_along.ensures.along ∙ same_wanted q.axes _ _ (λ axis three i.
     let times = c.granule_span-span.ensures.times in
     let series = c.granule_span-span.ensures.series axis three in
-    series_parts q.is_centred q.quantity (times i).first (times i).last (series i)) in
+    series_parts true q.quantity (times i).first (times i).last (series i)) in
     λ i. record { number = c.args.number; along = along i }

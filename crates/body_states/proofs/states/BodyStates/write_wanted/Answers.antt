@@ -1,4 +1,4 @@
-use Rattle.std.proofs.Common.{◌∙◌, ◌<◌, ap, arith, length, slice_index_or}
+use Rattle.std.proofs.Common.{◌∙◌, ◌<◌, true, ap, arith, length, slice_index_or}
 use Rattle.std.proofs.lemmas.List.{length-set}
 use Rattle.spec_bodies.proofs.InUse.{usable_numbers}
 use Rattle.body_states.specs.Ranges.{asked_of}
@@ -25,13 +25,13 @@ loop-turn-preserved c =
       | then-writing_turn-turn w ↦
           let is = rw c.columns-numbers.ensures.in_use at w.write_entry.ensures.entry in
           rw (w.columns-is, w.room-is) (
-            written_with c.args.question.now.is_centred q c.min-count.result c.entries-entries.result.now c.loop-turn.turn c.place_at-place.result own.first own.second c.loop-turn.columns before _ inside is,
+            written_with true q c.min-count.result c.entries-entries.result.now c.loop-turn.turn c.place_at-place.result own.first own.second c.loop-turn.columns before _ inside is,
             length-set c.loop-turn.columns _ _ ∙ long,
             w.write_entry.ensures.kept,
           )
       | else-writing_turn-turn w ↦
           rw (w.columns-is, w.room-is) (
-            written_without c.args.question.now.is_centred q c.min-count.result c.entries-entries.result.now c.loop-turn.turn c.place_at-place.result own.first own.second c.loop-turn.columns before
+            written_without true q c.min-count.result c.entries-entries.result.now c.loop-turn.turn c.place_at-place.result own.first own.second c.loop-turn.columns before
                 (λ same. w.if-writing_turn-turn.false (c.writing_turn.ensures ∙ same)),
             long,
             c.loop-turn.invariant.2,

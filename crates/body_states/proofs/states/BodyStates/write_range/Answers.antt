@@ -1,0 +1,13 @@
+use Rattle.std.proofs.Common.{◌∙◌, false}
+use Rattle.body_states.specs.Ranges.{series_parts}
+use Rattle.body_states.proofs.Entries.{same_wanted}
+use Rattle.body_states.proofs.states.BodyStates.write_range.Goals as goal
+
+pub returns : goal.returns
+returns c =
+    let q = c.args.question.now in
+    let along = c.write_ranges_along.ensures ∙ same_wanted q.axes _ _ (λ axis three i.
+    let times = c.granule_span-span.ensures.times in
+    let series = c.granule_span-span.ensures.series axis three in
+    series_parts false q.quantity (times i).first (times i).last (series i)) in
+    λ i. record { number = c.args.number; along = along i }

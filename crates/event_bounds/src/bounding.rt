@@ -10,7 +10,7 @@ ghost use Rattle.event_bounds.specs.Spans.{IsBoundOf, IsSpanRight};
 use crate::bound::Bound;
 use crate::spans::Span;
 use crate::times::BoundTimes;
-use body_states::{BodyStates, Quantity};
+use body_states::{BodyStates, Quantity, RangeRows};
 use column_steps::{MAX_STEPS, StepList, StepPlace, fill};
 use event_expr::rules::TimeSpan;
 use ival_core::Ival;
@@ -23,8 +23,15 @@ const FEW_STEPS: usize = 42;
 const MANY_STEPS: usize = 96;
 
 /// Returns the bound of the formula for which a step of a list stands, over the times from `a` to `b`. Times are in
-/// the unit of the ephemeris that the states read. Parts that are the same are bounded once.
-pub fn bound_over(listed: StepPlace, states: &BodyStates, a: i64, b: i64) -> Bound
+/// the unit of the ephemeris that the states read. Parts that are the same are bounded once. Rows that are needed are
+/// kept in `rows` for later calls, of any list and states.
+pub fn bound_over(
+    rows: &mut RangeRows,
+    listed: StepPlace,
+    states: &BodyStates,
+    a: i64,
+    b: i64,
+) -> Bound
     requires sight { listed.steps.now.sight ≡ sight_of states.now }
     requires step { listed.place < step_count listed.steps.now }
     requires slot { listed.place < slot_limit }
@@ -40,9 +47,9 @@ pub fn bound_over(listed: StepPlace, states: &BodyStates, a: i64, b: i64) -> Bou
     let (steps, place) = (listed.steps, listed.place);
     let times = TimeSpan::new(a, b);
     let axes = steps.axes_read(Quantity::Position, place);
-    let position = states.column_ranges(Quantity::Position, axes, &times);
+    let position = states.column_ranges(Quantity::Position, axes, &times, rows);
     let axes = steps.axes_read(Quantity::Velocity, place);
-    let velocity = states.column_ranges(Quantity::Velocity, axes, &times);
+    let velocity = states.column_ranges(Quantity::Velocity, axes, &times, rows);
     let span = Span {
         states,
         times: BoundTimes { span: &times },

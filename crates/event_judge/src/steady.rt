@@ -15,7 +15,7 @@ use crate::event_search::EventSearch;
 use crate::listed_event::ListedEvent;
 use crate::steps::is_monotone;
 use column_steps::{StepList, StepPlace};
-use event_bounds::{Bound, bound_over};
+use event_bounds::{Bound, RangeRows, bound_over};
 use event_expr::Formula;
 use event_kinds::Guard;
 use ival_core::Sign;
@@ -38,31 +38,35 @@ impl<'e> EventSearch<'e> {
         requires several { a <ℤ b }
         ensures { IsTrue result ↔ IsSteady self.now a b }
     {
-        is_monotone(self.function_bound(a, b).step) && self.are_certified(a, b)
+        let mut rows = RangeRows::new();
+        is_monotone(self.function_bound(&mut rows, a, b).step)
+            && self.are_certified(&mut rows, a, b)
     }
 
-    /// Returns the bound of the event's function from `a` to `b`, between which no granule begins.
-    pub fn function_bound(&self, a: i64, b: i64) -> Bound
+    /// Returns the bound of the event's function from `a` to `b`, between which no granule begins. Rows that it needs are
+    /// kept in `rows` for later bounds.
+    pub fn function_bound(&self, rows: &mut RangeRows, a: i64, b: i64) -> Bound
         requires { Fits self.now.view a b }
         ensures { IsBound result (bound_over self.now.view self.now.event.function a b) }
     {
-        bound_over(self.function_step(), self.states(), a, b)
+        bound_over(rows, self.function_step(), self.states(), a, b)
     }
 
     // Returns the bound of a formula from `a` to `b`, by steps made for it alone: the event's list had no room for it.
-    fn bound_by_own_steps(&self, formula: &Formula, a: i64, b: i64) -> Bound
+    fn bound_by_own_steps(&self, rows: &mut RangeRows, formula: &Formula, a: i64, b: i64) -> Bound
         requires { Fits self.now.view a b }
         ensures { IsBound result (bound_over self.now.view formula.now a b) }
     {
         let states = self.states();
         let (steps, place) = StepList::of(states.sight(), formula);
         let steps = &steps;
-        bound_over(StepPlace { steps, place }, states, a, b)
+        bound_over(rows, StepPlace { steps, place }, states, a, b)
     }
 
     // Returns the bound of a condition's formula from `a` to `b`, by the event's step with this number, or own steps.
     fn guard_bound(
         &self,
+        rows: &mut RangeRows,
         guard: &Guard,
         listed: &ListedEvent,
         number: Option<usize>,
@@ -76,14 +80,15 @@ impl<'e> EventSearch<'e> {
     {
         let steps = &listed.steps;
         match number {
-            Some(place) => bound_over(StepPlace { steps, place }, self.states(), a, b),
-            None => self.bound_by_own_steps(guard.formula(), a, b),
+            Some(place) => bound_over(rows, StepPlace { steps, place }, self.states(), a, b),
+            None => self.bound_by_own_steps(rows, guard.formula(), a, b),
         }
     }
 
     // Tells whether a condition holds at each time from `a` to `b`, by the bound of its formula.
     fn is_certified(
         &self,
+        rows: &mut RangeRows,
         guard: &Guard,
         listed: &ListedEvent,
         number: Option<usize>,
@@ -95,12 +100,12 @@ impl<'e> EventSearch<'e> {
         requires step { IsSlotOf listed.now.steps (slot_count listed.now.slots) guard.now.term number }
         ensures { result ≡ is_certified_over self.now a b guard.now }
     {
-        let bound = self.guard_bound(guard, listed, number, a, b);
+        let bound = self.guard_bound(rows, guard, listed, number, a, b);
         sign_certifies(guard.at_least(), bound.range.sign())
     }
 
     // Tells whether each condition of the event holds at each time from `a` to `b`, by the bounds of their formulas.
-    fn are_certified(&self, a: i64, b: i64) -> bool
+    fn are_certified(&self, rows: &mut RangeRows, a: i64, b: i64) -> bool
         requires { Fits self.now.view a b }
         ensures { IsTrue result
             ↔ All (λ c. is_certified_over self.now a b c ≡ true) self.now.event.conditions }
@@ -108,7 +113,7 @@ impl<'e> EventSearch<'e> {
         let listed = self.event_steps();
         let guards = self.event().guards();
         for place in 0..guards.len() {
-            if !self.is_certified(&guards[place], listed, listed.guard_step(place), a, b) {
+            if !self.is_certified(rows, &guards[place], listed, listed.guard_step(place), a, b) {
                 return false;
             }
         }
@@ -122,6 +127,7 @@ impl<'e> EventSearch<'e> {
         ensures some { IfSome result (λ sign. HasSign self.now a b sign) }
         ensures none { IfNone result (is_known (sign_over self.now a b) ≡ false) }
     {
-        known_sign(self.function_bound(a, b).range.sign())
+        let mut rows = RangeRows::new();
+        known_sign(self.function_bound(&mut rows, a, b).range.sign())
     }
 }

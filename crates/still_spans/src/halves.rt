@@ -9,6 +9,7 @@ use crate::borders::one_tick_span_between;
 use crate::budget::LeafBudget;
 use crate::known::Known;
 use crate::span_bound::SpanBound;
+use event_bounds::RangeRows;
 use event_judge::EventSearch;
 use event_models::ModelRooms;
 use gf_hooks::{CutRule, rule_cut};
@@ -24,12 +25,13 @@ pub(crate) const MAX_TRIES: u32 = 16_384;
 /// The width, in ticks, of the widest spans that are not halved.
 const NARROWEST: u64 = 1;
 
-/// The still spans that are found, how many more spans of a granule are looked at, and the room in which models are
-/// made.
+/// The still spans that are found, how many more spans of a granule are looked at, and the rooms in which bounds and
+/// models are made.
 #[derive(Drop)]
 pub(crate) struct Walk {
     pub(crate) found: Vec<StillSpan>,
     pub(crate) tries: u32,
+    pub(crate) rows: RangeRows,
     pub(crate) rooms: ModelRooms,
     pub(crate) budget: LeafBudget,
 }
@@ -132,7 +134,7 @@ impl Walk {
         }
         self.tries -= 1;
         let spare = self.budget.leaves_to_spare(search, b);
-        let doubt = match known.still_span_within(search, over, spare, a, b) {
+        let doubt = match known.still_span_within(search, &mut self.rows, over, spare, a, b) {
             Ok(still) => return self.add_span(search, a, b, still),
             Err(doubt) => doubt,
         };
@@ -142,7 +144,7 @@ impl Walk {
         let Some(known) = known.model_for_parts(search, &mut self.rooms, doubt, a, b) else {
             return Ok(());
         };
-        let over = over.bound_for_parts(search, spare, a, b);
+        let over = over.bound_for_parts(search, &mut self.rows, spare, a, b);
         let middle = middle_time(a, b);
         self.add_spans_within(search, &known, &over, a, middle, depth - 1)?;
         self.add_spans_within(search, &known, &over, middle, b, depth - 1)

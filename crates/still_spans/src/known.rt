@@ -11,6 +11,7 @@ ghost use Rattle.still_spans.specs.Knowledge.{AreSignsKnownOver, AreWithin, HasO
 
 use crate::knowledge::Knowledge;
 use crate::span_bound::{SpanBound, side_sign};
+use event_bounds::RangeRows;
 use event_judge::EventSearch;
 use event_models::{ModelRooms, is_wide_enough};
 use ival_core::Sign;
@@ -168,6 +169,7 @@ impl Known {
     pub(crate) fn still_span_within(
         &self,
         search: &EventSearch,
+        rows: &mut RangeRows,
         over: &SpanBound,
         spare: u64,
         a: i64,
@@ -180,7 +182,7 @@ impl Known {
         let outlook = self.outlook_within(search, a, b);
         match outlook.margin {
             Some(margin) => over
-                .still_span_by_margin(search, margin, spare, a, b)
+                .still_span_by_margin(search, rows, margin, spare, a, b)
                 .ok_or(Doubt::Parts),
             None if self.is_long_and_far_wider(a, b) => Err(Doubt::Rough),
             None if outlook.is_blurred && self.is_short_and_far_wider(a, b) => Err(Doubt::Rough),

@@ -34,7 +34,7 @@ impl Walk {
             return Ok(());
         }
         self.tries -= 1;
-        let over = over.bound_for_signs(search, a, b);
+        let over = over.bound_for_signs(search, &mut self.rows, a, b);
         if let Some(still) = known.still_span_by_sign(search, &over, a, b) {
             return self.add_span(search, a, b, still);
         }

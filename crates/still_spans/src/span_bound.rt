@@ -13,7 +13,7 @@ ghost use Rattle.still_spans.specs.Knowledge.{HasOneSign, IsBounded, IsBoundedOv
 
 use crate::budget::leaf_share;
 use crate::units::{halving_count, max_width_by_steps};
-use event_bounds::Bound;
+use event_bounds::{Bound, RangeRows};
 use event_judge::EventSearch;
 use gf_hooks::{Steps, is_one_way};
 use ival_core::{Ival, Sign};
@@ -44,12 +44,17 @@ pub(crate) struct SpanBound {
 }
 
 /// Returns the bound of the function of a search over the times from `first` to `last`, which lie in one granule of
-/// each column in use.
-pub(crate) fn function_bound_between(search: &EventSearch, first: i64, last: i64) -> Bound
+/// each column in use. Rows that it needs are kept in `rows` for later bounds.
+pub(crate) fn function_bound_between(
+    search: &EventSearch,
+    rows: &mut RangeRows,
+    first: i64,
+    last: i64,
+) -> Bound
     requires { Fits search.now.view first last }
     ensures { IsBound result (bound_over search.now.view search.now.event.function first last) }
 {
-    search.function_bound(first, last)
+    search.function_bound(rows, first, last)
 }
 
 // Returns the two ends of an interval of steps, in the interval's own unit.
@@ -77,14 +82,14 @@ impl SpanBound {
     }
 
     // Makes the bound of the search's function over the times from `first` to `last`, and keeps it with these times.
-    fn bound_between(search: &EventSearch, first: i64, last: i64) -> SpanBound
+    fn bound_between(search: &EventSearch, rows: &mut RangeRows, first: i64, last: i64) -> SpanBound
         requires fits { Fits search.now.view first last }
         requires several { first <ℤ last }
         ensures bounded { IsBounded search.now result }
         ensures first { result.first ≡ first }
         ensures last { result.last ≡ last }
     {
-        let bound = function_bound_between(search, first, last);
+        let bound = function_bound_between(search, rows, first, last);
         SpanBound::new(search, bound, first, last)
     }
 
@@ -137,6 +142,7 @@ impl SpanBound {
     fn bound_of_part(
         &self,
         search: &EventSearch,
+        rows: &mut RangeRows,
         is_finer_wanted: bool,
         a: i64,
         b: i64,
@@ -145,7 +151,7 @@ impl SpanBound {
         ensures { IsBoundedOver search.now result a b }
     {
         if is_finer_wanted && !self.is_monotone() {
-            SpanBound::bound_between(search, a, b)
+            SpanBound::bound_between(search, rows, a, b)
         } else {
             *self
         }
@@ -156,6 +162,7 @@ impl SpanBound {
     pub(crate) fn bound_for_parts(
         &self,
         search: &EventSearch,
+        rows: &mut RangeRows,
         spare: u64,
         a: i64,
         b: i64,
@@ -164,17 +171,23 @@ impl SpanBound {
         ensures { IsBoundedOver search.now result a b }
     {
         let is_finer_wanted = spare < AMPLE_LEAVES && self.is_far_wider(a, b);
-        self.bound_of_part(search, is_finer_wanted, a, b)
+        self.bound_of_part(search, rows, is_finer_wanted, a, b)
     }
 
     /// Returns the bound by which the times from `a` to `b` are examined where only signs are known: a new one over these times
     /// alone, if this one is over longer times in which the function may turn; else this one.
-    pub(crate) fn bound_for_signs(&self, search: &EventSearch, a: i64, b: i64) -> SpanBound
+    pub(crate) fn bound_for_signs(
+        &self,
+        search: &EventSearch,
+        rows: &mut RangeRows,
+        a: i64,
+        b: i64,
+    ) -> SpanBound
         requires { IsBoundedOver search.now self.now a b }
         ensures { IsBoundedOver search.now result a b }
     {
         let is_longer = b.abs_diff(a) < self.last.abs_diff(self.first);
-        self.bound_of_part(search, is_longer, a, b)
+        self.bound_of_part(search, rows, is_longer, a, b)
     }
 
     /// Returns the still span from `a` to `b`, given the sign that the function has there at each time: nodes of any width
@@ -205,6 +218,7 @@ impl SpanBound {
     pub(crate) fn still_span_by_margin(
         &self,
         search: &EventSearch,
+        rows: &mut RangeRows,
         margin: Margin,
         spare: u64,
         a: i64,
@@ -219,7 +233,7 @@ impl SpanBound {
         if has_few_leaves(a, b, widest, spare) {
             return useful_span(search, a, b, widest, side_sign(margin));
         }
-        let own = SpanBound::bound_between(search, a, b);
+        let own = SpanBound::bound_between(search, rows, a, b);
         let wider = own.widest_clear_width(search, margin, a, b);
         let share = leaf_share(search, a, b);
         if MIN_HALVED_SHARE <= share && !has_few_leaves(a, b, wider, share) {

@@ -14,7 +14,7 @@ use crate::knowledge::Knowledge;
 use crate::quiet::quiet_span;
 use crate::sign_halves::MAX_SIGN_TRIES;
 use crate::span_bound::{SpanBound, function_bound_between};
-use event_bounds::Bound;
+use event_bounds::{Bound, RangeRows};
 use event_judge::EventSearch;
 use event_models::ModelRooms;
 use spec_stills::StillSpan;
@@ -39,7 +39,7 @@ impl Walk {
         if a == b || !has_no_border_between(search, a, b) {
             return Ok(());
         }
-        let bound = function_bound_between(search, a, b);
+        let bound = function_bound_between(search, &mut self.rows, a, b);
         match quiet_span(search, &bound, a, b) {
             Some(still) => self.add_span(search, a, b, still),
             None => self.add_spans_by_model(search, bound, a, b),
@@ -104,6 +104,7 @@ fn still_spans_between(
     let mut walk = Walk {
         found: Vec::new(alloc),
         tries: 0,
+        rows: RangeRows::new(),
         rooms: ModelRooms::new(),
         budget: LeafBudget::new(from),
     };

@@ -21,7 +21,9 @@ pub(crate) struct Wide {
 }
 
 /// Returns the sum of the coefficients of a series from a place on, each times its entry of a row. None is returned if
-/// the two roundings of a coefficient differ by more than one, as no coefficient of an ephemeris does.
+/// the two roundings of a coefficient differ by more than one, as no coefficient of an ephemeris does. The call is not
+/// inlined, so that its loops have all registers.
+#[inline(never)]
 pub(crate) fn weighted_sum(
     pairs: &[Rounded],
     rows: &[RowModel; ENTRIES],

@@ -31,22 +31,18 @@ astropy quantity. Each refusal is an exception with the command's status, its li
 `FinderError` and those below it.
 
 What stands beside the windows is computed of the same files in doubles, and unproved: `seen` says when each event is
-seen, as almanacs print it, `values` where the bodies are then, in km and degrees, and `Sky` and `Series` give places at
-any time. `names` says what an almanac calls each event. `intervals` pairs rises and falls into the times during which
-something lasts, which is proved where an interval says so.
+seen, as almanacs print it, `values` where the bodies are then, in km and degrees, and `ApparentPlaces` and `Series` give
+places at any time. `names` says what an almanac calls each event. `intervals` pairs rises and falls into the times
+during which something lasts, which is proved where an interval says so.
 """
 
-from ._almanac import SpanNotHeld, almanac
-from ._entries import Almanac, Contact, Entry, Event, Group, Numbers, Status
-from ._certificates import Certificate, Verified, certificate, verify
-from ._extremes import Extreme, NotProved, greatest, least
-from ._files import WrongFiles
-from ._intervals import Interval, intervals, on_at_start
-from ._names import names
-from ._numbers import cosine_of_degrees
-from ._pages import Format, page
-from ._parts import join, over_files
-from ._program import (
+from .almanac.almanac import SpanNotHeld, almanac
+from .almanac.entries import Almanac, Contact, Entry, Event, Group, Numbers, Status
+from .almanac.names import names
+from .almanac.pages import Format, page
+from .ephemeris.files import WrongFiles
+from .ephemeris.series import Series
+from .process.program import (
     CertificateRefused,
     EventRefused,
     FileFault,
@@ -60,8 +56,14 @@ from ._program import (
     WordsRefused,
     WriteFailed,
 )
-from ._scales import Clock, Scale
-from ._search import (
+from .reports.certificates import Certificate, Verified, certificate, verify
+from .reports.intervals import Interval, intervals, on_at_start
+from .reports.sets import Span, Spans, TimeSet, WrongSets
+from .reports.windows import Window, Windows
+from .searches.extremes import Extreme, NotProved, greatest, least
+from .searches.numbers import cosine_of_degrees
+from .searches.parts import join, over_files
+from .searches.search import (
     apsides,
     check,
     conjunctions,
@@ -78,24 +80,24 @@ from ._search import (
     stations,
     times,
 )
-from ._seen import Seen, seen
-from ._series import Series
-from ._sets import Span, Spans, TimeSet, WrongSets
-from ._sky import NoErfa, Sky
-from ._values import Place, Values, values
-from ._windows import Window, Windows
-from ._words import BarycentreWarning
+from .searches.words import BarycentreWarning
+from .seen.apparent import ApparentPlaces, NoErfa
+from .seen.scales import Clock, Scale
+from .seen.seen import Seen, seen
+from .seen.values import Coordinates, Values, values
 from .spans import NoProgram, Summary, WrongParts, WrongReport
 
 __version__ = "0.1"
 
 __all__ = [
     "Almanac",
+    "ApparentPlaces",
     "BarycentreWarning",
     "Certificate",
     "CertificateRefused",
     "Clock",
     "Contact",
+    "Coordinates",
     "Entry",
     "Event",
     "EventRefused",
@@ -111,12 +113,10 @@ __all__ = [
     "NotProved",
     "Numbers",
     "OutOfMemory",
-    "Place",
     "ReadFailed",
     "Scale",
     "Seen",
     "Series",
-    "Sky",
     "Span",
     "SpanNotHeld",
     "SpanRefused",

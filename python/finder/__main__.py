@@ -13,12 +13,12 @@ import zoneinfo
 from collections.abc import Sequence
 from typing import Optional
 
-from ._almanac import Machine, almanac_of_seconds, groups_of, search_count
-from ._entries import Group
-from ._pages import Format, page
-from ._program import FinderError, runs_of
-from ._scales import FIRST_UTC_YEAR, UTC, Clock, Scale
-from ._sky import NoErfa
+from .almanac.almanac import Machine, almanac_of_seconds, groups_of, search_count
+from .almanac.entries import Group
+from .almanac.pages import Format, page
+from .process.program import FinderError, runs_of
+from .seen.apparent import NoErfa
+from .seen.scales import FIRST_UTC_YEAR, UTC, Clock, Scale
 from .spans import NoProgram, Words, WrongReport, write
 
 GROUPS = ", ".join(group.value for group in Group)

@@ -6,9 +6,9 @@ import importlib.util
 import os
 
 import finder
-from finder._almanac import Machine, almanac_of_seconds
-from finder._program import runs_of
-from finder._scales import UTC
+from finder.almanac.almanac import Machine, almanac_of_seconds
+from finder.process.program import runs_of
+from finder.seen.scales import UTC
 from tests.common import PROGRAM, YEAR, stand_in
 
 CLOCK = finder.Clock()

@@ -15,12 +15,13 @@ import numpy as np
 
 import finder
 from finder import Event, Group, Status
-from finder._almanac import recipes, search_count
-from finder._eclipses import SolarEclipses, Transits
-from finder._entries import EclipseKind
-from finder._events import planets
-from finder._observed import Observed
-from finder._shadows import kind_of
+from finder.almanac import eclipses
+from finder.almanac.almanac import recipes, search_count
+from finder.almanac.eclipses import SolarEclipses, Transits
+from finder.almanac.entries import EclipseKind
+from finder.almanac.events import planets
+from finder.almanac.observed import Observed
+from finder.almanac.shadows import kind_of
 from tests.almanacs import ECLIPTIC, almanac_of, almanac_of_2000, has, moment, undecided_moon, utc, wide_moon
 from tests.common import PROGRAM, YEAR, InFolder, command, split_year, stand_in
 
@@ -176,7 +177,7 @@ class Unproved(InFolder):
     def test_a_transit(self):
         """Mercury passes the Sun at 3.7 degrees on 1 March (Astronomical Phenomena): such a radius touches it."""
         recipe = Transits("mercury")
-        with mock.patch.dict("finder._eclipses.RADII", mercury=5_690_000.0):
+        with mock.patch.dict(eclipses.RADII, mercury=5_690_000.0):
             searches = recipe.searches
         files = [str(YEAR)]
         found = [each.run(files, start="2000-01-01", end="2000-04-01", program=PROGRAM) for each in searches]

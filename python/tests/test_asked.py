@@ -10,7 +10,7 @@ import warnings
 import numpy as np
 
 import finder
-from finder._hints import OF_NUMBER, OF_OPTION, OF_STATUS
+from finder.process.hints import OF_NUMBER, OF_OPTION, OF_STATUS
 from tests.common import TOP, YEAR, InFolder, stand_in
 
 EARTH = {"observer": "earth"}

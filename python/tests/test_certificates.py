@@ -35,7 +35,7 @@ def cuts_of(tick):
 
 def words_of(made):
     """The words of the command for a certificate's request."""
-    from finder._certificates import request_options
+    from finder.reports.certificates import request_options
 
     return [f"--{name}={word}" for name, word in request_options(made.report).items()]
 

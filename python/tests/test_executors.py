@@ -6,7 +6,7 @@ import logging
 import unittest
 
 import finder
-from finder._program import Runs
+from finder.process.program import Runs
 from tests.almanacs import has
 from tests.common import PROGRAM, YEAR, InFolder, split_year, stand_in
 

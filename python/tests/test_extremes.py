@@ -9,8 +9,8 @@ from fractions import Fraction
 import numpy as np
 
 import finder
-from finder._extremes import _kilometres
-from finder._vectors import angle, length
+from finder.searches.extremes import _kilometres
+from finder.seen.vectors import angle, length
 from tests.common import PROGRAM, YEAR, InFolder, stand_in
 
 EARTH = {"observer": "earth"}

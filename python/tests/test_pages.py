@@ -14,11 +14,11 @@ import numpy as np
 
 import finder
 from finder import Event, Format, Group, Scale
-from finder._drawing import Drawing
-from finder._entries import Almanac, Curves, Numbers
-from finder._frame import Frame, labels
-from finder._html import HALF, WHOLE, periods
-from finder._scales import utc_of
+from finder.drawing.drawing import Drawing
+from finder.almanac.entries import Almanac, Curves, Numbers
+from finder.almanac.frame import Frame, labels
+from finder.almanac.html import HALF, WHOLE, periods
+from finder.seen.scales import utc_of
 from tests.almanacs import CLOCK, almanac_of_2000, has, undecided_moon, wide_moon
 from tests.common import InFolder
 

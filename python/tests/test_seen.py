@@ -100,7 +100,7 @@ class Almanacs(InFolder):
         found = finder.occultations(YEAR, "moon", "sun", (MOON + 6_378.1, SUN - 6_378.1), observer="earth")
         self.assertEqual(finder.names(found), ["solar eclipse begins", "solar eclipse ends"] * 4)
         times = finder.seen(found, YEAR).seconds
-        sky = finder.Sky(finder.Series(YEAR), of_date=False)
+        sky = finder.ApparentPlaces(finder.Series(YEAR), of_date=False)
         wanted = ((-1.2233, 0.5795), (-1.2821, 0.4768), (1.2166, 0.6034), (1.1367, 0.7228))
         for begin, end, (gamma, magnitude) in zip(times[::2], times[1::2], wanted):
             off, along, far = shadow(sky, np.linspace(begin, end, 2_001))

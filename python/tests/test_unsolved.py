@@ -30,7 +30,7 @@ class Unsolved(InFolder):
         """What is seen before light from Uranus can have set out in the file is named, what is seen later solved."""
         header, files = split_year(self.folder)
         part, whole = finder.Series([header, files[1]]), finder.Series(YEAR)
-        sky = finder.Sky(whole, of_date=False)
+        sky = finder.ApparentPlaces(whole, of_date=False)
         outcomes = set()
         for hours in range(1, 9, 2):
             place = part.seen("uranus", "earth", "eq", np.array([part.start + 3_600 * hours]))[0, 0]
@@ -201,7 +201,7 @@ class Refusals(InFolder):
 
     def test_bodies_and_frames_that_are_none(self):
         series = finder.Series(YEAR)
-        for sky in (series, finder.Sky(series, of_date=False)):
+        for sky in (series, finder.ApparentPlaces(series, of_date=False)):
             with self.assertRaisesRegex(ValueError, "did you mean 'earth'"):
                 sky.seen("moon", "erth", "eq", [0.0])
             with self.assertRaisesRegex(ValueError, "no frame"):
@@ -209,7 +209,7 @@ class Refusals(InFolder):
 
     def test_places_of_times_that_were_changed(self):
         """An array of times that is changed in place is another one."""
-        sky = finder.Sky(finder.Series(YEAR), of_date=False)
+        sky = finder.ApparentPlaces(finder.Series(YEAR), of_date=False)
         times = np.array([0.0])
         before = sky.seen("sun", "earth", "eq", times)
         times += 86_400

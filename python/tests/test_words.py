@@ -10,8 +10,8 @@ from fractions import Fraction
 import numpy as np
 
 import finder
-from finder._numbers import cosine_of_degrees, decimal_text
-from finder._times import ticks_of_time
+from finder.searches.numbers import cosine_of_degrees, decimal_text
+from finder.searches.times import ticks_of_time
 from finder.spans import WrongReport, ticks_of, time_text
 
 # Texts of times, and their seconds since J2000.

@@ -1,0 +1,1 @@
+"""Almanacs of years: their entries, and the forms in which they are written."""

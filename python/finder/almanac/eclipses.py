@@ -1,0 +1,250 @@
+"""The events of an almanac that several windows belong to: eclipses, transits, and what the Moon covers.
+
+The Moon's sphere touches a cone of the Earth's shadow where its centre is on the cone that lies a radius farther out,
+or farther in. A cone that is tangent to two spheres on one side of its axis each, as the umbra, moves outward by a
+length where both radii grow by it; one that is tangent to them on opposite sides, as the penumbra, where that of the
+nearer body grows and that of the Sun shrinks. So the radii of these searches are those of a sphere that touches.
+"""
+
+from __future__ import annotations
+
+from collections.abc import Callable, Sequence
+from dataclasses import dataclass
+
+import numpy as np
+
+from .. import spans
+from ..reports.windows import Windows
+from ..searches.search import occultations, separation_extremes
+from ..seen.roots import illinois
+from ..seen.vectors import Floats, angle
+from .entries import PLANETS, Contact, EclipseKind, Entry, Event, Group, Numbers
+from .names import INNER
+from .observed import Observed, Recipe, Search, by_turn
+from .shadows import EARTH, MOON, SHADOW, SUN, moon_shadow, moon_sizes, shadow_axis
+
+# Mean radii in km (docs/RECIPES.md).
+RADII = {
+    "mercury": 2_439.4,
+    "venus": 6_051.8,
+    "mars": 3_389.5,
+    "jupiter": 69_911.0,
+    "saturn": 58_232.0,
+    "uranus": 25_362.0,
+    "neptune": 24_622.0,
+}
+# The radius in km within which the axis of the Moon's shadow meets the Earth (docs/RECIPES.md).
+CENTRAL = 6_350.0
+# Contacts of one event are less than half a day apart; the greatest is within an hour of them, or two where there is
+# one contact alone, and within the files, at whose start light is on its way for up to half an hour.
+APART = spans.DAY / 2
+AROUND = 3_600.0
+LIGHT = 1_800.0
+# The seconds on each side by which a change is taken, and how many times are looked at for a least value.
+STEP = 30.0
+GRID = 241
+
+
+def _touches(target: str, second: str, radii: tuple[float, float], observer: str, kind: str = "any") -> Search:
+    return Search(occultations, (target, second, radii), {"observer": observer, "kind": kind})
+
+
+def _least(target: str, observer: str) -> Search:
+    """The least angles between a body and the Sun."""
+    return Search(separation_extremes, (target, "sun"), {"observer": observer, "dir": "fall"})
+
+
+def _groups(contacts: list[Contact]) -> list[list[Contact]]:
+    """The contacts of each event, in order of time."""
+    made: list[list[Contact]] = []
+    for contact in sorted(contacts, key=lambda each: each.seconds):
+        if made and contact.seconds - made[-1][0].seconds < APART:
+            made[-1].append(contact)
+        else:
+            made.append([contact])
+    return made
+
+
+def _ordered(group: list[Contact], greatest: Contact) -> tuple[Contact, ...]:
+    return tuple(sorted([*group, greatest], key=lambda each: each.seconds))
+
+
+def _around(observed: Observed, group: list[Contact]) -> tuple[float, float]:
+    """The times about an event, within the files; half of it may be missing at their end."""
+    low, high = group[0].seconds - AROUND, group[-1].seconds + AROUND
+    if len(group) < 2:
+        low, high = low - AROUND, high + AROUND
+    return max(low, observed.series.start + LIGHT), min(high, observed.series.end - 2 * STEP)
+
+
+def _lowest(function: Callable[[Floats], Floats], low: float, high: float) -> float:
+    """The time at which a function of times is least, between two; one of the two where it is least there."""
+    times = np.linspace(low, high, GRID)
+    place = int(function(times).argmin())
+    if place in (0, GRID - 1):
+        return float(times[place])
+
+    def change(at: Floats) -> Floats:
+        return function(at + STEP) - function(at - STEP)
+
+    ends = times[place - 1 : place], times[place + 1 : place + 2]
+    return float(illinois(change, *ends, *(change(end) for end in ends))[0])
+
+
+def _greatest(observed: Observed, least: list[Contact], group: list[Contact], body: str, observer: str) -> Contact:
+    """The least angle between a body and the Sun: of its window, or where no time was found for that, in doubles."""
+    low, high = _around(observed, group)
+    inside = [each for each in least if each.seen is not None and low <= each.seconds <= high]
+    if inside:
+        return inside[0]
+
+    def apart(at: Floats) -> Floats:
+        return angle(observed.at(body, at, observer), observed.at("sun", at, observer))
+
+    return Contact("greatest", None, "", observed.arrival(_lowest(apart, low, high), observer))
+
+
+@dataclass(frozen=True)
+class LunarEclipses:
+    """Lunar eclipses, of what is seen from the Moon: the Earth before the Sun, at times at which it is seen here."""
+
+    group: Group = Group.ECLIPSES
+
+    @property
+    def searches(self) -> tuple[Search, ...]:
+        """The penumbra, the umbra, totality, and the least angle."""
+        return (
+            _touches("earth", "sun", (SHADOW + MOON, SUN - MOON), "moon"),
+            _touches("earth", "sun", (SHADOW + MOON, SUN + MOON), "moon", "full"),
+            _touches("earth", "sun", (SHADOW - MOON, SUN - MOON), "moon", "full"),
+            _least("earth", "moon"),
+        )
+
+    def entries(self, observed: Observed, found: Sequence[Windows]) -> list[Entry]:
+        """An entry for each eclipse."""
+        labels = by_turn("P1", "P4"), by_turn("U1", "U4"), by_turn("U2", "U3"), by_turn("", "greatest")
+        of_search = [observed.contacts(each, label, arrival="earth") for each, label in zip(found, labels)]
+        least = of_search.pop()
+        groups = _groups([contact for contacts in of_search for contact in contacts])
+        return [self._entry(observed, group, _greatest(observed, least, group, "earth", "moon")) for group in groups]
+
+    def _entry(self, observed: Observed, group: list[Contact], greatest: Contact) -> Entry:
+        have = {each.name for each in group}
+        total, partial = bool(have & {"U2", "U3"}), bool(have & {"U1", "U4"})
+        kind = EclipseKind.TOTAL if total else EclipseKind.PARTIAL if partial else EclipseKind.PENUMBRAL
+        at = np.array([greatest.seconds])
+        sizes = moon_sizes(observed.at("moon", at), observed.at("sun", at))
+        numbers = Numbers(
+            kind=kind, magnitude=round(sizes.umbral, 4), penumbral_magnitude=round(sizes.penumbral, 4)
+        )
+        size = sizes.penumbral if kind is EclipseKind.PENUMBRAL else sizes.umbral
+        every = _ordered(group, greatest)
+        name, text = f"Lunar eclipse, {kind.value}", f"magnitude {size:.3f}"
+        return Entry(self.group, Event.LUNAR_ECLIPSE, name, ("moon",), greatest.seconds, every, numbers, text)
+
+
+@dataclass(frozen=True)
+class SolarEclipses:
+    """Solar eclipses, somewhere on Earth. Their kind, magnitude and greatest are of the shadow's axis, in doubles."""
+
+    group: Group = Group.ECLIPSES
+
+    @property
+    def searches(self) -> tuple[Search, ...]:
+        """The penumbra on the Earth, and the axis of the shadow."""
+        return (
+            _touches("moon", "sun", (MOON + EARTH, SUN - EARTH), "earth"),
+            _touches("moon", "sun", (CENTRAL, 0.0), "earth"),
+        )
+
+    def entries(self, observed: Observed, found: Sequence[Windows]) -> list[Entry]:
+        """An entry for each eclipse."""
+        labels = by_turn("P1", "P4"), by_turn("central begins", "central ends")
+        contacts = [each for rows, label in zip(found, labels) for each in observed.contacts(rows, label)]
+        return [self._entry(observed, group) for group in _groups(contacts)]
+
+    def _entry(self, observed: Observed, group: list[Contact]) -> Entry:
+        def off(at: Floats) -> Floats:
+            return shadow_axis(observed.at("moon", at), observed.at("sun", at)).off
+
+        time = _lowest(off, *_around(observed, group))
+        at = np.array([time])
+        made = moon_shadow(shadow_axis(observed.at("moon", at), observed.at("sun", at)))
+        is_partial = made.kind is EclipseKind.PARTIAL
+        numbers = Numbers(
+            kind=made.kind,
+            gamma=round(made.gamma, 5),
+            umbra_radii=round(made.umbra, 6),
+            magnitude=round(made.magnitude, 4) if is_partial else None,
+        )
+        text = (f"magnitude {made.magnitude:.3f}, " if is_partial else "") + f"gamma {made.gamma:+.3f}"
+        every = _ordered(group, Contact("greatest", None, "", time))
+        name = f"Solar eclipse, {made.kind.value}"
+        return Entry(self.group, Event.SOLAR_ECLIPSE, name, ("sun", "moon"), time, every, numbers, text)
+
+
+@dataclass(frozen=True)
+class Transits:
+    """Transits of an inner planet before the Sun, as the Earth's centre sees them."""
+
+    planet: str
+    group: Group = Group.ECLIPSES
+
+    @property
+    def searches(self) -> tuple[Search, ...]:
+        """Outer touches, inner touches, and the least angle."""
+        radii = RADII[self.planet], SUN
+        outer, inner = (_touches(self.planet, "sun", radii, "earth", kind) for kind in ("any", "annular"))
+        return outer, inner, _least(self.planet, "earth")
+
+    def entries(self, observed: Observed, found: Sequence[Windows]) -> list[Entry]:
+        """An entry for each transit."""
+        labels = by_turn("I", "IV"), by_turn("II", "III"), by_turn("", "greatest")
+        of_search = [observed.contacts(each, label) for each, label in zip(found, labels)]
+        least = of_search.pop()
+        groups = _groups([contact for contacts in of_search for contact in contacts])
+        body = self.planet
+        return [self._entry(observed, group, _greatest(observed, least, group, body, "earth")) for group in groups]
+
+    def _entry(self, observed: Observed, group: list[Contact], greatest: Contact) -> Entry:
+        at = np.array([greatest.seconds])
+        away = float(angle(observed.at(self.planet, at), observed.at("sun", at))[0]) * 3_600
+        name, text = f"Transit of {self.planet.capitalize()}", f"{away:.0f}″ from the Sun's centre"
+        numbers, every = Numbers(least_angle_arcsec=round(away, 2)), _ordered(group, greatest)
+        return Entry(self.group, Event.TRANSIT, name, (self.planet,), greatest.seconds, every, numbers, text)
+
+
+@dataclass(frozen=True)
+class Occultations:
+    """Times at which the Moon covers a planet somewhere on Earth."""
+
+    planet: str
+    group: Group = Group.MOON_MEETINGS
+
+    @property
+    def searches(self) -> tuple[Search, ...]:
+        """A Moon that has the Earth's radius added."""
+        return (_touches("moon", self.planet, (MOON + EARTH, RADII[self.planet]), "earth"),)
+
+    def entries(self, observed: Observed, found: Sequence[Windows]) -> list[Entry]:
+        """An entry for each."""
+        contacts = observed.contacts(found[0], by_turn("begins", "ends"))
+        return [self._entry(observed, group) for group in _groups(contacts)]
+
+    def _entry(self, observed: Observed, group: list[Contact]) -> Entry:
+        time = sum(contact.seconds for contact in group) / len(group)
+        at = np.array([time])
+        away = float(angle(observed.at(self.planet, at), observed.at("sun", at))[0])
+        name, text, numbers = f"Moon covers {self.planet.capitalize()}", "somewhere on Earth", Numbers()
+        # (the files may end within light time)
+        if np.isfinite(away):
+            text, numbers = f"{text}, {away:.0f}° from the Sun", Numbers(elongation_deg=round(away, 4))
+        bodies = "moon", self.planet
+        return Entry(self.group, Event.OCCULTATION, name, bodies, time, tuple(group), numbers, text)
+
+
+def eclipses() -> list[Recipe]:
+    """All recipes of eclipses, transits, and planets that the Moon covers."""
+    made: list[Recipe] = [LunarEclipses(), SolarEclipses()]
+    made += [Transits(planet) for planet in INNER]
+    return made + [Occultations(planet) for planet in PLANETS]

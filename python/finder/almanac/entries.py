@@ -1,0 +1,221 @@
+"""What an almanac holds: entries in order of time, and the certified windows that each rests on.
+
+Times are seconds of TDB since J2000, 2000-01-01T12:00:00 TDB.
+"""
+
+from __future__ import annotations
+
+from dataclasses import dataclass, field
+from enum import Enum
+from typing import Optional
+
+from .. import spans
+from ..seen.vectors import Floats
+
+# The planets of an almanac, in order from the Sun; from Jupiter on they are the barycentres of their systems.
+PLANETS = ("mercury", "venus", "mars", "jupiter", "saturn", "uranus", "neptune")
+
+
+class Group(Enum):
+    """The groups of entries, by the names that `--only` takes."""
+
+    MOON = "moon"
+    SEASONS = "seasons"
+    ECLIPSES = "eclipses"
+    PLANETS = "planets"
+    MEETINGS = "meetings"
+    MOON_MEETINGS = "moon-meetings"
+
+    @property
+    def title(self) -> str:
+        """What a page calls the group."""
+        return GROUP_TITLES[self]
+
+
+GROUP_TITLES = {
+    Group.MOON: "The Moon",
+    Group.SEASONS: "Earth and Sun",
+    Group.ECLIPSES: "Eclipses and transits",
+    Group.PLANETS: "Planets",
+    Group.MEETINGS: "Planets that meet",
+    Group.MOON_MEETINGS: "The Moon and planets",
+}
+
+
+class Event(Enum):
+    """What happens. The names up to that of the elongation are those that `finder.names` gives."""
+
+    NEW_MOON = "new moon"
+    FIRST_QUARTER = "first quarter"
+    FULL_MOON = "full moon"
+    LAST_QUARTER = "last quarter"
+    PERIGEE = "perigee"
+    APOGEE = "apogee"
+    ASCENDING_NODE = "ascending node"
+    DESCENDING_NODE = "descending node"
+    MARCH_EQUINOX = "March equinox"
+    JUNE_SOLSTICE = "June solstice"
+    SEPTEMBER_EQUINOX = "September equinox"
+    DECEMBER_SOLSTICE = "December solstice"
+    PERIHELION = "perihelion"
+    APHELION = "aphelion"
+    CONJUNCTION = "conjunction"
+    INFERIOR_CONJUNCTION = "inferior conjunction"
+    SUPERIOR_CONJUNCTION = "superior conjunction"
+    OPPOSITION = "opposition"
+    TURNS_DIRECT = "station, turns direct"
+    TURNS_RETROGRADE = "station, turns retrograde"
+    GREATEST_ELONGATION = "greatest elongation"
+    MEETING = "meeting"
+    OCCULTATION = "occultation"
+    SOLAR_ECLIPSE = "solar eclipse"
+    LUNAR_ECLIPSE = "lunar eclipse"
+    TRANSIT = "transit"
+    UNDECIDED = "undecided"
+
+
+class Side(Enum):
+    """On which side of the Sun a body is seen: east is the evening's."""
+
+    EAST = "east"
+    WEST = "west"
+
+    @property
+    def sky(self) -> str:
+        """When it is seen."""
+        return "evening sky" if self is Side.EAST else "morning sky"
+
+
+class Way(Enum):
+    """Where the second body passes the first one."""
+
+    NORTH = "north"
+    SOUTH = "south"
+
+
+class EclipseKind(Enum):
+    """The kinds of eclipses of the Sun and of the Moon."""
+
+    PENUMBRAL = "penumbral"
+    PARTIAL = "partial"
+    TOTAL = "total"
+    ANNULAR = "annular"
+    HYBRID = "hybrid"
+
+
+class Status(Enum):
+    """How far an entry is proved and solved."""
+
+    CERTIFIED = "certified"
+    UNDECIDED = "undecided"
+    UNSOLVED = "unsolved"
+
+
+@dataclass(frozen=True)
+class Numbers:
+    """What is said of an event, in doubles; None where it is not said. The unit ends the name: km, au, degrees (`deg`),
+    arc seconds, radii of the Earth. Magnitudes and `gamma` are as almanacs have them: parts of a diameter, and the
+    distance of the shadow's axis from the Earth's centre in its radii, below 0 to the south."""
+
+    distance_km: Optional[float] = None
+    distance_au: Optional[float] = None
+    elongation_deg: Optional[float] = None
+    side: Optional[Side] = None
+    separation_deg: Optional[float] = None
+    second_is: Optional[Way] = None
+    kind: Optional[EclipseKind] = None
+    magnitude: Optional[float] = None
+    penumbral_magnitude: Optional[float] = None
+    gamma: Optional[float] = None
+    umbra_radii: Optional[float] = None
+    least_angle_arcsec: Optional[float] = None
+
+
+@dataclass(frozen=True)
+class Contact:
+    """A moment of an event: its window, whose search `request` is, and the time `seen` at which it is seen.
+
+    The window is None for what no search is made for, as the greatest of a solar eclipse. `seen` is None where no time
+    was found near the window, and `reason` says why."""
+
+    name: str
+    window: Optional[spans.Window]
+    request: str
+    seen: Optional[float]
+    reason: str = ""
+
+    @property
+    def seconds(self) -> float:
+        """The time as it is seen; the middle of the window where there is none."""
+        if self.seen is not None:
+            return self.seen
+        if self.window is None:
+            raise ValueError(f"the contact {self.name!r} has neither a window nor a time")
+        return (self.window.first - 1 + self.window.last) / 2
+
+    @property
+    def status(self) -> Status:
+        """Whether its window is certain, and its time was found."""
+        if self.window is not None and self.window.turn is None:
+            return Status.UNDECIDED
+        return Status.CERTIFIED if self.seen is not None else Status.UNSOLVED
+
+
+@dataclass(frozen=True)
+class Entry:
+    """A line of an almanac: `seconds` is its time as it is seen, and `contacts` are the moments that it rests on, of
+    one window mostly, of several for an eclipse. `text` says the numbers as a line does."""
+
+    group: Group
+    event: Event
+    name: str
+    bodies: tuple[str, ...]
+    seconds: float
+    contacts: tuple[Contact, ...]
+    numbers: Numbers = Numbers()
+    text: str = ""
+
+    @property
+    def status(self) -> Status:
+        """The worst of its contacts: undecided, or not solved."""
+        have = {contact.status for contact in self.contacts}
+        return next((each for each in (Status.UNDECIDED, Status.UNSOLVED) if each in have), Status.CERTIFIED)
+
+
+@dataclass(frozen=True)
+class Curves:
+    """What a drawing shows at `times`, in doubles: the Moon's distance in km, and for each planet its ecliptic
+    longitude less the Sun's in degrees, from -180 to 180, above 0 in the evening sky; and which planets move backward
+    at first."""
+
+    times: Floats
+    moon_km: Floats
+    from_sun_deg: dict[str, Floats]
+    retrograde_at_start: tuple[str, ...]
+
+
+@dataclass(frozen=True)
+class Almanac:
+    """The entries of a span in order of time, from `start` and before `end`, and what they come from: the `groups` that
+    were looked for, by so many `searches` of the `files`, from `first_searched` to `last_searched`.
+
+    An undecided window has an entry, which says so, and so has a certain one near which no time was found as it is
+    seen: its own time stands there. None is left out."""
+
+    title: str
+    start: float
+    end: float
+    entries: tuple[Entry, ...]
+    groups: tuple[Group, ...]
+    searches: int
+    files: tuple[str, ...]
+    first_searched: int
+    last_searched: int
+    curves: Curves = field(compare=False)
+
+    def __repr__(self) -> str:
+        return f"<{self.title!r}: {len(self.entries)} entries of {self.searches} searches>"
+
+    def of(self, *events: Event) -> list[Entry]:
+        """The entries of some events, in order."""
+        return [entry for entry in self.entries if entry.event in events]

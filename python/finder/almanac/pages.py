@@ -1,0 +1,33 @@
+"""The forms in which an almanac is printed."""
+
+from __future__ import annotations
+
+from enum import Enum
+from typing import Union
+
+from ..searches.words import one_of
+from ..seen.scales import Clock
+from .entries import Almanac
+from .html import html_of
+from .ics import ics_of
+from .tables import csv_of, json_of, text_of
+
+
+class Format(Enum):
+    """A form of an almanac, by the names that `--format` takes."""
+
+    TEXT = "text"
+    HTML = "html"
+    CSV = "csv"
+    JSON = "json"
+    ICS = "ics"
+
+
+MAKERS = {Format.TEXT: text_of, Format.HTML: html_of, Format.CSV: csv_of, Format.JSON: json_of, Format.ICS: ics_of}
+
+
+def page(found: Almanac, form: Union[Format, str] = Format.TEXT, clock: Clock = Clock()) -> str:
+    """An almanac in a form, as `"html"`, with its times by a clock, which is UTC unless another is given."""
+    if not isinstance(form, Format):
+        one_of("format", form, [each.value for each in Format])
+    return MAKERS[Format(form)](found, clock)

@@ -1,0 +1,1 @@
+"""JPL's files, and places of bodies of them in doubles."""

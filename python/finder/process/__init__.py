@@ -1,0 +1,1 @@
+"""Runs the command `finder`: a process a search, what ends it, and what a refusal means."""

@@ -1,0 +1,260 @@
+"""The command, one process a search, and an exception for each of its statuses."""
+
+from __future__ import annotations
+
+import concurrent.futures
+import os
+import re
+import signal
+import subprocess
+import threading
+import time
+from collections.abc import Sequence
+from dataclasses import dataclass, field
+from typing import Optional, Union
+
+from .. import spans
+from ..searches.words import seconds
+from .hints import TOO_LONG, causes_of, told
+from .watch import watch
+
+# Seconds after which a wait begins anew: an interrupt that comes just before a wait begins is seen only when it ends.
+WAIT = 0.2
+NUMBERED = re.compile(r"(?:^|: )([0-9]+) ([A-Z][A-Za-z]*)(?: (\S+))?$")
+FAULT = re.compile(r"finder: file (.*) line ([0-9]+): [0-9]+ [A-Za-z]+(?: \S+)?", re.DOTALL)
+
+
+class FinderError(Exception):
+    """The command ended without a report: `status` is its exit status, `line` what it wrote to standard error."""
+
+    def __init__(self, status: int, line: str) -> None:
+        # (an OSError takes the first of two words for a number of the system, which a status is not)
+        super().__init__(line)
+        self.status = status
+        self.line = line
+
+    def __reduce__(self) -> tuple[type[FinderError], tuple[int, str]]:
+        return type(self), (self.status, self.line)
+
+    def __str__(self) -> str:
+        return self.line or f"the command ended with status {self.status}"
+
+    @property
+    def number(self) -> Optional[int]:
+        """The number of what was refused (`docs/USAGE.md`, `docs/FORMATS.md`), where the line has one."""
+        found = NUMBERED.search(self.line)
+        return int(found[1]) if found else None
+
+    @property
+    def name(self) -> Optional[str]:
+        """Its name, as `BadValue`."""
+        found = NUMBERED.search(self.line)
+        return found[2] if found else None
+
+    @property
+    def detail(self) -> Optional[str]:
+        """What follows the name: the option of 63, or the number of a bad number."""
+        found = NUMBERED.search(self.line)
+        return found[3] if found else None
+
+    @property
+    def hint(self) -> str:
+        """The likely causes, the likeliest first, and what to write instead."""
+        return told(causes_of(self.status, self.number, self.detail))
+
+
+class WordsRefused(FinderError, ValueError):
+    """Status 2: the command line is invalid."""
+
+
+class FileFault(FinderError, ValueError):
+    """Status 3: the files have a fault, which is at a line of a file."""
+
+    @property
+    def file(self) -> Optional[str]:
+        """The file's name."""
+        found = FAULT.fullmatch(self.line)
+        return found[1] if found else None
+
+    @property
+    def line_number(self) -> Optional[int]:
+        """The number of the line, 0 where it is the file as a whole."""
+        found = FAULT.fullmatch(self.line)
+        return int(found[2]) if found else None
+
+
+class ReadFailed(FinderError, OSError):
+    """Status 4: a file is not there, may not be read, or a read failed."""
+
+
+class WriteFailed(FinderError, OSError):
+    """Status 5: the pipe to this process failed."""
+
+
+class SpanRefused(FinderError, ValueError):
+    """Status 6: the span holds no tick, or is not within the files."""
+
+
+class EventRefused(FinderError, ValueError):
+    """Status 7: the files do not have this event."""
+
+
+class OutOfMemory(FinderError, MemoryError):
+    """Status 8: there was no memory."""
+
+
+class TooManyLeaves(FinderError, ValueError):
+    """Status 9: the search has more leaves than a search may have."""
+
+
+class CertificateRefused(FinderError, ValueError):
+    """Status 10: a line of a certificate breaks a rule, the first of its lines that does."""
+
+    @property
+    def line_number(self) -> Optional[int]:
+        """The number of the line."""
+        found = re.match(r"finder: certificate line ([0-9]+):", self.line)
+        return int(found[1]) if found else None
+
+
+class Interrupted(FinderError):
+    """The process was ended by a signal, whose number is `-status`."""
+
+
+class TimedOut(FinderError, TimeoutError):
+    """The search took longer than its `timeout`, and was ended."""
+
+    @property
+    def hint(self) -> str:
+        """The likely causes, the likeliest first, and what to write instead."""
+        return told(TOO_LONG)
+
+
+OF_STATUS: dict[int, type[FinderError]] = {
+    2: WordsRefused,
+    3: FileFault,
+    4: ReadFailed,
+    5: WriteFailed,
+    6: SpanRefused,
+    7: EventRefused,
+    8: OutOfMemory,
+    9: TooManyLeaves,
+    10: CertificateRefused,
+}
+
+
+def _end(process: subprocess.Popen[bytes]) -> None:
+    """Ends a process, and those that it started: the launcher may be building the program."""
+    if process.poll() is None:
+        try:
+            os.killpg(process.pid, signal.SIGKILL)
+        except ProcessLookupError:
+            pass
+
+
+@dataclass
+class _Begun:
+    """The processes of a run that have begun; once it is over, none begins any more."""
+
+    processes: list[subprocess.Popen[bytes]] = field(default_factory=list)
+    is_over: bool = False
+
+
+class Runs:
+    """The processes of one call, which end with it."""
+
+    def __init__(self, program: Union[str, os.PathLike[str], None], timeout: Optional[float]) -> None:
+        if timeout is not None:
+            seconds("timeout", timeout)
+        self._program = spans.find_program(program)
+        self._timeout = timeout
+        self._deadline = None if timeout is None else time.monotonic() + timeout
+        self._live: set[subprocess.Popen[bytes]] = set()
+        self._lock = threading.Lock()
+        self._stopped = False
+
+    def _start(self, words: Sequence[Union[str, bytes]], begun: _Begun) -> None:
+        """Starts the command, in a group of its own, unless the call is over, and adds it to those that have begun. It
+        ends with this process, however that one ends."""
+        with self._lock:
+            if self._stopped or begun.is_over:
+                raise Interrupted(-signal.SIGKILL, "finder: the call is over")
+            try:
+                process = subprocess.Popen(
+                    [self._program, *words],
+                    stdin=subprocess.DEVNULL,
+                    stdout=subprocess.PIPE,
+                    stderr=subprocess.PIPE,
+                    start_new_session=True,
+                    env=watch.environment(),
+                )
+            except OSError as error:
+                raise spans.NoProgram(error.errno, f"{self._program} cannot be run: {error.strerror}") from error
+            self._live.add(process)
+            begun.processes.append(process)
+
+    def run(self, words: Sequence[Union[str, bytes]]) -> str:
+        """What the command prints for these words."""
+        begun = _Begun()
+        try:
+            # (an interrupt comes to the main thread alone, and so not between a process and its record)
+            with concurrent.futures.ThreadPoolExecutor(1) as pool:
+                pool.submit(self._start, words, begun).result()
+            out, err = self._output(begun.processes[0])
+        finally:
+            # (where the interrupt comes while the thread starts, nothing has waited for what that one starts)
+            with self._lock:
+                begun.is_over = True
+            for process in begun.processes:
+                self._finish(process)
+        return _answer(begun.processes[0].returncode, out, err)
+
+    def _output(self, process: subprocess.Popen[bytes]) -> tuple[bytes, bytes]:
+        """What the command wrote to both outputs until it ended."""
+        while self._deadline is None or time.monotonic() < self._deadline:
+            left = WAIT if self._deadline is None else min(WAIT, max(0.0, self._deadline - time.monotonic()))
+            try:
+                return process.communicate(timeout=left)
+            except subprocess.TimeoutExpired:
+                pass
+        raise TimedOut(-signal.SIGKILL, f"finder: not done after {self._timeout} seconds")
+
+    def _finish(self, process: subprocess.Popen[bytes]) -> None:
+        """Ends a process where it runs still, and waits for its end."""
+        _end(process)
+        process.wait()
+        for stream in (process.stdout, process.stderr):
+            if stream:
+                stream.close()
+        with self._lock:
+            self._live.discard(process)
+
+    def stop(self) -> None:
+        """Ends every process, and starts none any more."""
+        with self._lock:
+            self._stopped = True
+            for process in self._live:
+                _end(process)
+
+
+Program = Union[str, os.PathLike[str], Runs, None]
+
+
+def _answer(status: int, out: bytes, err: bytes) -> str:
+    """What the command printed, or the exception of its status."""
+    if status:
+        line = os.fsdecode(err).removesuffix("\n")
+        if status == 70 or status in (126, 127):
+            raise spans.NoProgram(line or f"status {status}")
+        if status < 0:
+            raise Interrupted(status, line)
+        raise OF_STATUS.get(status, FinderError)(status, line)
+    try:
+        return out.decode("ascii")
+    except UnicodeDecodeError:
+        raise spans.WrongReport("the command printed what is no report") from None
+
+
+def runs_of(program: Program, timeout: Optional[float]) -> Runs:
+    """Those of a call that takes a program and a timeout; the program may be those of the call around it."""
+    return program if isinstance(program, Runs) else Runs(program, timeout)

@@ -1,0 +1,243 @@
+"""Sets of times, of which some are sure and others possible, and what is made of several of them."""
+
+from __future__ import annotations
+
+from collections.abc import Iterator, Sequence
+from typing import Any, NamedTuple, Optional, Union, overload
+
+import numpy as np
+import numpy.typing as npt
+
+from .. import spans
+from .ends import Ends
+
+
+class WrongSets(ValueError):
+    """Sets of different spans or ticks, of which no set is made."""
+
+
+class Span(NamedTuple):
+    """Times in a row: the first and the last tick since J2000 (TDB), both of them in it."""
+
+    first: int
+    last: int
+
+
+class Spans(Ends, Sequence[Span]):
+    """Spans in order of time. Between two of them there is a tick that is in none.
+
+    `first` and `last` are arrays of int64, ticks since J2000 (TDB) of which `tick` are in a second; both ends of a span
+    are in it. A slice holds some of the spans, and `in` looks for a tick in them.
+    """
+
+    def __init__(self, tick: int, first: Any, last: Any) -> None:
+        self.tick = tick
+        self.first = np.array(first, dtype=np.int64)
+        self.last = np.array(last, dtype=np.int64)
+        for array in (self.first, self.last):
+            array.flags.writeable = False
+
+    def __len__(self) -> int:
+        return len(self.first)
+
+    def __iter__(self) -> Iterator[Span]:
+        return map(Span, self.first.tolist(), self.last.tolist())
+
+    @overload
+    def __getitem__(self, place: int) -> Span:
+        ...
+
+    @overload
+    def __getitem__(self, place: Union[slice, npt.NDArray[Any]]) -> Spans:
+        ...
+
+    def __getitem__(self, place: Any) -> Union[Span, Spans]:
+        """A span, or those of a slice, of a mask or of places."""
+        if isinstance(place, (int, np.integer)):
+            return Span(int(self.first[place]), int(self.last[place]))
+        return Spans(self.tick, self.first[place], self.last[place])
+
+    def __contains__(self, sought: object) -> bool:
+        """Whether a tick is in one of the spans, or a span is one of them."""
+        if isinstance(sought, tuple):
+            return any(span == sought for span in self)
+        if isinstance(sought, bool) or not isinstance(sought, (int, np.integer)):
+            raise TypeError(f"a tick or a span is wanted: {sought!r}")
+        return Spans(self.tick, [sought], [sought])._within(self)
+
+    def __eq__(self, other: object) -> bool:
+        return isinstance(other, Spans) and self._key() == other._key()
+
+    def __hash__(self) -> int:
+        return hash(self._key())
+
+    def __repr__(self) -> str:
+        return f"<Spans: {', '.join(self._lines('')) or 'none'}>"
+
+    def to_pandas(self) -> Any:
+        """A `DataFrame` of pandas: first and last ticks, and the times on the calendar of TDB as texts."""
+        import pandas
+
+        return pandas.DataFrame(
+            {
+                "first": self.first,
+                "last": self.last,
+                "first_tdb": self._texts("first"),
+                "last_tdb": self._texts("last"),
+            }
+        )
+
+    def to_table(self) -> Any:
+        """A `Table` of astropy: the first and the last times."""
+        from astropy.table import Table
+
+        return Table({"first": self.time("first"), "last": self.time("last")})
+
+    def _key(self) -> tuple[int, bytes, bytes]:
+        return self.tick, self.first.tobytes(), self.last.tobytes()
+
+    def _lines(self, letter: str) -> list[str]:
+        """The lines of a report that has these spans."""
+        return [f"{letter}{spans.span_text(first, last, self.tick)}" for first, last in self]
+
+    def _within(self, other: Spans) -> bool:
+        """Whether each time is one of the other's."""
+        place = np.searchsorted(other.first, self.first, "right") - 1
+        return bool((place >= 0).all() and (self.last <= other.last[place]).all())
+
+    def _or(self, other: Spans) -> Spans:
+        """The times of either. Spans that overlap or touch are one."""
+        first = np.concatenate([self.first, other.first])
+        order = np.argsort(first, kind="stable")
+        first = first[order]
+        # (how far the spans up to each one reach)
+        last = np.maximum.accumulate(np.concatenate([self.last, other.last])[order])
+        begins = np.ones(len(first), dtype=bool)
+        begins[1:] = first[1:] > last[:-1] + 1
+        return Spans(self.tick, first[begins], last[np.roll(begins, -1)])
+
+    def _not(self, start: int, end: int) -> Spans:
+        """The other times of a span in which these are."""
+        first = np.insert(self.last + 1, 0, start)
+        last = np.append(self.first - 1, np.int64(end))
+        some = first <= last
+        return Spans(self.tick, first[some], last[some])
+
+
+class TimeSet:
+    """A set of times of a span, which are ticks from `start` to `end`, both among them.
+
+    `sure` and `possible` are `Spans`: each sure time is in the set, and each time of the set is possible. What is sure
+    is possible. `request` is the request of the search whose answer the set is, or None where it is made of other sets;
+    `made_of` are the requests of all searches that it comes from.
+
+    Of sets of one span and one tick, `a & b` has the times that are in both, `a | b` those in either, and `~a` those of
+    the span that are not in `a`. The sure times of `a & b` are sure in both and its possible ones possible in both, and
+    so with either; the sure times of `~a` are not possible in `a`, and its possible ones are not sure there. So what is
+    made keeps both promises. Sets are equal where span, tick, sure and possible times are, whatever the requests.
+    """
+
+    def __init__(
+        self, start: int, end: int, sure: Spans, possible: Spans, made_of: Sequence[str], request: Optional[str] = None
+    ) -> None:
+        self.tick = sure.tick
+        self.start = start
+        self.end = end
+        self.sure = sure
+        self.possible = possible
+        self.made_of = tuple(dict.fromkeys(made_of))
+        self.request = request
+
+    @classmethod
+    def of_text(cls, text: str) -> TimeSet:
+        """The set of a report, whose lines and counts are checked: `WrongReport` where it is not whole."""
+        return cls.of_report(spans.one_of(text, spans.SetReport))
+
+    @classmethod
+    def of_report(cls, report: spans.SetReport, made_of: Sequence[str] = ()) -> TimeSet:
+        """The set of a report that was read; of a set that is made of others, of their requests."""
+        sure, possible = (
+            Spans(report.tick, [first for first, _ in rows], [last for _, last in rows])
+            for rows in (report.sure, report.possible)
+        )
+        if not sure._within(possible):
+            raise spans.WrongReport("a sure time is not among the possible ones")
+        request = None if made_of else report.request
+        return cls(report.start, report.end, sure, possible, made_of or [report.request], request)
+
+    @classmethod
+    def joined(cls, parts: Sequence[TimeSet]) -> TimeSet:
+        """The set of the whole span, of those of its parts in order: at the time at which two parts meet, which is in
+        both, the earlier one counts. `WrongParts` where they are of different requests, overlap or do not meet."""
+        whole = spans.join_sets([part._report() for part in parts])
+        return cls.of_report(whole, () if parts[0].request else parts[0].made_of)
+
+    def _report(self) -> spans.SetReport:
+        """The report that has this set, whose request is all those of which the set is made."""
+        sure, possible = (tuple(zip(rows.first.tolist(), rows.last.tolist())) for rows in (self.sure, self.possible))
+        request = self.request or " and ".join(self.made_of)
+        return spans.SetReport(request, self.tick, self.start, self.end, sure, possible)
+
+    @property
+    def text(self) -> str:
+        """The report as the command prints it, letter for letter; of a set that is made of others, its spans and its
+        counts, without the first line."""
+        head = [] if self.request is None else [f"{self.request} span {self.span}"]
+        counts = f"END sure {len(self.sure)} possible {len(self.possible)}"
+        return "\n".join([*head, *self.sure._lines("S "), *self.possible._lines("P "), counts, ""])
+
+    @property
+    def span(self) -> str:
+        """The span as a report has it."""
+        return spans.span_text(self.start, self.end, self.tick)
+
+    @property
+    def asked(self) -> dict[str, str]:
+        """The words of the request by their names, with each option at its value or default; of a set that is made of
+        others, none."""
+        return {} if self.request is None else spans.words_of(self.request, spans.SET_REQUEST)
+
+    def __and__(self, other: TimeSet) -> TimeSet:
+        if not isinstance(other, TimeSet):
+            return NotImplemented
+        return ~(~self | ~other)
+
+    def __or__(self, other: TimeSet) -> TimeSet:
+        if not isinstance(other, TimeSet):
+            return NotImplemented
+        return self._made(other, self.sure._or(other.sure), self.possible._or(other.possible))
+
+    def __invert__(self) -> TimeSet:
+        return self._made(self, self.possible._not(self.start, self.end), self.sure._not(self.start, self.end))
+
+    def up_to(self, wider: TimeSet) -> TimeSet:
+        """A set of which nothing is known but that it has each time of this one, and no time that the wider one has
+        not: its sure times are those of this one, its possible ones those of the wider one."""
+        made = self._made(wider, self.sure, wider.possible)
+        if not made.sure._within(made.possible):
+            raise WrongSets("a sure time of the one set is no possible time of the wider one")
+        return made
+
+    def _made(self, other: TimeSet, sure: Spans, possible: Spans) -> TimeSet:
+        """A set that is made of this one and another."""
+        if self.tick != other.tick:
+            raise WrongSets(f"sets of different ticks: {self.tick} and {other.tick} in a second")
+        if (self.start, self.end) != (other.start, other.end):
+            raise WrongSets(f"sets of different spans: {self.span} and {other.span}")
+        return TimeSet(self.start, self.end, sure, possible, self.made_of + other.made_of)
+
+    def __eq__(self, other: object) -> bool:
+        return isinstance(other, TimeSet) and self._key() == other._key()
+
+    def __hash__(self) -> int:
+        return hash(self._key())
+
+    def __bool__(self) -> bool:
+        raise TypeError("a set is neither true nor false: ask `sure` or `possible`, and join sets by & and |")
+
+    def __repr__(self) -> str:
+        source = f"made of {len(self.made_of)} searches" if self.request is None else f"of {self.request!r}"
+        return f"<TimeSet {source}: {len(self.sure)} sure, {len(self.possible)} possible spans>"
+
+    def _key(self) -> tuple[int, int, Spans, Spans]:
+        return self.start, self.end, self.sure, self.possible

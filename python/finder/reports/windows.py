@@ -1,0 +1,164 @@
+"""The windows of a search, as a sequence and as arrays."""
+
+from __future__ import annotations
+
+from collections.abc import Iterator, Sequence
+from typing import Any, Optional, Union, overload
+
+import numpy as np
+import numpy.typing as npt
+
+from .. import spans
+from ..spans import Report
+from .ends import End, Ends, datetime64_of
+
+
+class Window(spans.Window):
+    """A window: its first and its last tick since J2000 (TDB), and its turn, which is `rise` or `fall` where it is
+    certain, and None where it is undecided. It is a tuple of these three; `tick` of its ticks are in a second."""
+
+    tick: int = 1
+
+    def __new__(cls, first: int, last: int, turn: Optional[str] = None, tick: int = 1) -> Window:
+        made = super().__new__(cls, first, last, turn)
+        made.tick = tick
+        return made
+
+    def text(self, which: End = "last") -> str:
+        """The first or the last tick as a report has it, on the calendar of TDB."""
+        return spans.time_text(_end_of(self, which), self.tick)
+
+    def datetime64(self, which: End = "last") -> np.datetime64:
+        """The first or the last tick on the calendar of TDB, exactly, to the second or the millisecond."""
+        made: np.datetime64 = datetime64_of(np.array([_end_of(self, which)]), self.tick)[0]
+        return made
+
+
+def _end_of(window: Window, which: End) -> int:
+    if which not in ("first", "last"):
+        raise ValueError(f"`first` or `last` is wanted, not {which!r}")
+    return window.first if which == "first" else window.last
+
+
+class Windows(Ends, Sequence[Window]):
+    """The windows of a search, in order of time, after `start` and up to `end`.
+
+    `first` and `last` are arrays of int64, ticks since J2000 (TDB) of which `tick` are in a second; `turn` is an array
+    of `rise`, `fall` and, for an undecided window, the empty text. The event of a certain window of one tick has
+    happened at that tick and had not happened one before. A slice holds some of the windows of the same search.
+    """
+
+    def __init__(self, report: Report) -> None:
+        self.request = report.request
+        self.tick = report.tick
+        self.start = report.start
+        self.end = report.end
+        self.first = np.array([window.first for window in report.windows], dtype=np.int64)
+        self.last = np.array([window.last for window in report.windows], dtype=np.int64)
+        self.turn: npt.NDArray[np.str_] = np.array([window.turn or "" for window in report.windows], dtype="<U4")
+        for array in (self.first, self.last, self.turn):
+            array.flags.writeable = False
+
+    def __reduce__(self) -> tuple[type[Windows], tuple[Report]]:
+        # (arrays that are pickled can be written to where they arrive, those that are made of a report cannot)
+        return Windows, (self.report,)
+
+    @classmethod
+    def of_text(cls, text: str) -> Windows:
+        """The windows of a report, whose lines and counts are checked: `WrongReport` where it is not whole."""
+        return cls(spans.read_report(text))
+
+    @classmethod
+    def of_report(cls, report: Report) -> Windows:
+        """The windows of a report that was read."""
+        return cls(report)
+
+    @property
+    def report(self) -> Report:
+        """The report that has these windows."""
+        return Report(self.request, self.tick, self.start, self.end, tuple(self))
+
+    @property
+    def text(self) -> str:
+        """The report as the command prints it, letter for letter."""
+        return self.report.text()
+
+    @property
+    def asked(self) -> dict[str, str]:
+        """The words of the request by their names, with each option at its value or default."""
+        return self.report.asked
+
+    def __len__(self) -> int:
+        return len(self.first)
+
+    def __iter__(self) -> Iterator[Window]:
+        for first, last, turn in zip(self.first.tolist(), self.last.tolist(), self.turn.tolist()):
+            yield Window(first, last, turn or None, self.tick)
+
+    @overload
+    def __getitem__(self, place: int) -> Window:
+        ...
+
+    @overload
+    def __getitem__(self, place: Union[slice, npt.NDArray[Any]]) -> Windows:
+        ...
+
+    def __getitem__(self, place: Any) -> Union[Window, Windows]:
+        """A window, or those of a slice, of a mask or of places."""
+        if isinstance(place, (int, np.integer)):
+            return self._window(int(place))
+        chosen = [self._window(number) for number in np.arange(len(self))[place]]
+        return Windows(Report(self.request, self.tick, self.start, self.end, tuple(chosen)))
+
+    def _window(self, place: int) -> Window:
+        return Window(int(self.first[place]), int(self.last[place]), str(self.turn[place]) or None, self.tick)
+
+    def __eq__(self, other: object) -> bool:
+        return isinstance(other, Windows) and self.report == other.report
+
+    def __hash__(self) -> int:
+        return hash(self.report)
+
+    def __repr__(self) -> str:
+        certain = int(self.certain.sum())
+        return f"<Windows of {self.request!r}: {certain} certain, {len(self) - certain} undecided>"
+
+    @property
+    def certain(self) -> npt.NDArray[np.bool_]:
+        """Which windows are certain, as a mask."""
+        mask: npt.NDArray[np.bool_] = self.turn != ""
+        return mask
+
+    @property
+    def rises(self) -> npt.NDArray[np.bool_]:
+        """Which windows are certain and rise, as a mask."""
+        mask: npt.NDArray[np.bool_] = self.turn == "rise"
+        return mask
+
+    @property
+    def falls(self) -> npt.NDArray[np.bool_]:
+        """Which windows are certain and fall, as a mask."""
+        mask: npt.NDArray[np.bool_] = self.turn == "fall"
+        return mask
+
+    def to_pandas(self) -> Any:
+        """A `DataFrame` of pandas: first and last ticks, the turn (empty where it is undecided), and the times on the
+        calendar of TDB as texts, since the times of pandas may end at 1677 and 2262."""
+        import pandas
+
+        return pandas.DataFrame(
+            {
+                "first": self.first,
+                "last": self.last,
+                "turn": self.turn.astype(object),
+                "first_tdb": self._texts("first"),
+                "last_tdb": self._texts("last"),
+            }
+        )
+
+    def to_table(self) -> Any:
+        """A `Table` of astropy: the first and the last times, and the turn, with the request in its `meta`."""
+        from astropy.table import Table
+
+        columns = {"first": self.time("first"), "last": self.time("last"), "turn": self.turn.copy()}
+        return Table(columns, meta={"request": self.request})

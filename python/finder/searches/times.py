@@ -1,0 +1,104 @@
+"""Times of every usual form, as ticks since J2000 (TDB)."""
+
+from __future__ import annotations
+
+import datetime
+import re
+from fractions import Fraction
+from typing import Any, Union
+
+import numpy as np
+
+from .. import spans
+
+Time = Union[int, str, np.datetime64, datetime.datetime, datetime.date, Any]
+J2000 = np.datetime64("2000-01-01T12:00:00", "s")
+J2000_DAYS = 2_451_545
+TEXT = re.compile(r"([0-9]{4}|-[0-9]{6})-[0-9]{2}-[0-9]{2}(?:[T ]([0-9]{2}:[0-9]{2})(:[0-9]{2})?(\.[0-9]+)?)?")
+ZONE = re.compile(r"(.*[0-9:])(?:Z|z|[+-][0-9]{2}:?[0-9]{2}| ?UTC)")
+# How near to a tick an astropy time is that tick: its two doubles hold times to some 10^-11 seconds.
+NEAR = Fraction(1, 10**9)
+
+
+def _of_text(text: str) -> Fraction:
+    """The seconds of a text: a day, or a day and a time, with seconds and their fraction or without."""
+    found = TEXT.fullmatch(text)
+    zone = ZONE.fullmatch(text)
+    if not found and zone and TEXT.fullmatch(zone[1]):
+        raise ValueError(
+            f"a time with a zone is of UTC, and times are TDB: of {text!r} write astropy.time.Time({zone[1]!r}, "
+            f"scale='utc') where it is UTC, and {zone[1]!r} where it is TDB"
+        )
+    if not found or (found[4] and not found[3]):
+        raise ValueError(f"no time: {text!r}; write it as 2000-05-01 or 2000-05-01T12:00:00")
+    day = text[: found.end(1) + 6]
+    try:
+        whole = spans.ticks_of(f"{day}T{found[2] or '00:00'}{found[3] or ':00'}")
+    except spans.WrongReport:
+        raise ValueError(f"no time of the calendar: {text!r}") from None
+    return whole + Fraction(f"0{found[4] or ''}")
+
+
+def _of_datetime64(time: np.datetime64) -> Fraction:
+    """The seconds of a `datetime64` of any unit."""
+    if np.isnat(time):
+        raise ValueError("no time: NaT")
+    whole = time.astype("datetime64[s]")
+    return int((whole - J2000).astype(np.int64)) + _part(time, whole)
+
+
+def _part(time: np.datetime64, whole: np.datetime64) -> Fraction:
+    """The part of a second by which a time is after a whole one."""
+    part = time - whole
+    unit, count = np.datetime_data(part.dtype)
+    place = {"s": 0, "ms": 3, "us": 6, "ns": 9, "ps": 12, "fs": 15, "as": 18}
+    return Fraction(int(part.astype(np.int64)) * count, 10 ** place[unit])
+
+
+def _of_datetime(time: datetime.datetime) -> Fraction:
+    """The seconds of a `datetime` without a zone; a `Timestamp` of pandas is one, with nanoseconds."""
+    if time.tzinfo is not None:
+        raise TypeError(
+            "a time with a zone is of UTC, and times are TDB: write astropy.time.Time(..), which is turned into TDB, "
+            "or leave the zone out where it is TDB"
+        )
+    if hasattr(time, "to_datetime64"):
+        return _of_datetime64(time.to_datetime64())
+    days = (time.date() - datetime.date(2000, 1, 1)).days
+    clock = time.hour * 3_600 + time.minute * 60 + time.second
+    return Fraction(days * spans.DAY - spans.DAY // 2 + clock) + Fraction(time.microsecond, 10**6)
+
+
+def _of_astropy(time: Any, tick: int) -> Fraction:
+    """The seconds of an astropy `Time`, in its scale TDB; one within a nanosecond of a tick is that tick."""
+    if getattr(time, "shape", ()) != ():
+        raise TypeError("one time is wanted, not an array of them")
+    whole = time.tdb
+    seconds = (Fraction(float(whole.jd1)) + Fraction(float(whole.jd2)) - J2000_DAYS) * spans.DAY
+    near = Fraction(round(seconds * tick), tick)
+    return near if abs(near - seconds) < NEAR else seconds
+
+
+def ticks_of_time(time: Time, tick: int, up: bool) -> int:
+    """The ticks since J2000 of a time, rounded up or down to a whole number of them."""
+    if isinstance(time, (bool, np.bool_)):
+        raise TypeError(f"no time: {time!r}")
+    if isinstance(time, (int, np.integer)) and not isinstance(time, np.timedelta64):
+        seconds = Fraction(int(time))
+    elif isinstance(time, str):
+        seconds = _of_text(time)
+    elif isinstance(time, np.datetime64):
+        seconds = _of_datetime64(time)
+    elif isinstance(time, datetime.datetime):
+        seconds = _of_datetime(time)
+    elif isinstance(time, datetime.date):
+        seconds = _of_text(time.isoformat())
+    elif hasattr(time, "tdb") and hasattr(time, "jd1"):
+        seconds = _of_astropy(time, tick)
+    else:
+        raise TypeError(
+            f"no time: {time!r}; a time is a whole number of seconds, a text, a datetime64, a datetime "
+            "without a zone or an astropy Time"
+        )
+    ticks = seconds * tick
+    return -(-ticks // 1) if up else ticks // 1

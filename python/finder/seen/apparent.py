@@ -1,0 +1,173 @@
+"""Where bodies are seen: by light time, aberration and the bending of light, on the axes of date. In doubles."""
+
+from __future__ import annotations
+
+from collections.abc import Callable
+from typing import Any
+
+import numpy as np
+
+from .. import spans
+from ..ephemeris.files import J2000_DATE
+from ..ephemeris.series import Series
+from ..searches.words import one_of
+from .curves import LIGHT
+from .vectors import Floats, floats, length, many
+
+# Twice the Sun's mass in km, 2GM/c^2, and the least of 1 + cos at which light is bent: a body further behind the Sun's
+# disc is not seen at all.
+BENDING = 2.95325
+BEHIND = 1e-6
+# Each pass leaves a part of v/c of the fault of a place before: the third some decimetres.
+PASSES = 3
+# Nutation is taken at each half day and between them by polynomials through six: to some 10^-7 arc seconds.
+HALF_DAY = spans.DAY / 2
+NODES = np.arange(-2, 4)
+
+
+class NoErfa(ImportError):
+    """Equator and equinox of date want the package `erfa` (Debian: python3-erfa; pip: pyerfa), as astropy does."""
+
+
+def erfa_package() -> Any:
+    """The package erfa, or a refusal that names it."""
+    try:
+        import erfa
+    except ImportError:
+        raise NoErfa(
+            "the equator and equinox of date, and UTC, want the package erfa (pip: pyerfa, Debian: python3-erfa; it "
+            "comes with astropy); with of_date=False directions are those of J2000, which want none"
+        ) from None
+    return erfa
+
+
+class _Nutation:
+    """Nutation in longitude and in obliquity in radians, of the IAU's model of 2000A as it was adjusted in 2006."""
+
+    def __init__(self) -> None:
+        self._known = np.empty(0, dtype=int), np.empty((2, 0))
+
+    def _nodes(self, wanted: Any) -> Floats:
+        """Both angles at half days since J2000, of numbers without a repetition and in order."""
+        known, rows = self._known
+        more = np.setdiff1d(wanted, known, assume_unique=True)
+        if len(more):
+            made = np.array(erfa_package().nut06a(J2000_DATE, more * HALF_DAY / spans.DAY))
+            known, rows = np.concatenate([known, more]), np.concatenate([rows, made], axis=1)
+            order = known.argsort()
+            known, rows = known[order], rows[:, order]
+            # (threads may ask at once: each has what it asked for, and one of them leaves it for later)
+            self._known = known, rows
+        return floats(rows[:, np.searchsorted(known, wanted)])
+
+    def at(self, times: Floats) -> Floats:
+        """Both angles at seconds since J2000 (TDB)."""
+        place = times / HALF_DAY
+        whole = np.floor(place).astype(int)
+        part = place - whole
+        wanted, numbers = np.unique(whole[:, None] + NODES, return_inverse=True)
+        near = self._nodes(wanted)[:, numbers.reshape(-1, len(NODES))]
+        weights = [
+            np.prod([(part - other) / (node - other) for other in NODES if other != node], axis=0) for node in NODES
+        ]
+        return floats((near * np.stack(weights, axis=-1)).sum(axis=-1))
+
+
+NUTATION = _Nutation()
+
+
+def frames_of_date(frame: str, times: Floats) -> Floats:
+    """Matrices from the axes of the file to the true equator (`eq`) or ecliptic (`ecl`) and the true equinox of date,
+    at seconds since J2000 (TDB): precession of the IAU of 2006, nutation of 2000A."""
+    erfa = erfa_package()
+    at = np.nan_to_num(times)
+    turn, node, tilt, mean = erfa.pfw06(J2000_DATE, at / spans.DAY)
+    longitude, obliquity = NUTATION.at(at)
+    rows = erfa.fw2m(turn, node, tilt + longitude, mean + obliquity)
+    return floats(erfa.rx(mean + obliquity, rows) if frame == "ecl" else rows)
+
+
+class ApparentPlaces:
+    """Places of bodies as they are seen from one another, in doubles and unproved.
+
+    Each is where the body was when its light set out, turned by aberration, and with `bending` bent by the Sun's mass.
+    With `of_date`, which wants erfa, it is on the axes of date, for files whose axes are those of the ICRS, as those of
+    JPL's files have been since DE403; without it on the axes of the file, or the ecliptic of J2000.
+    """
+
+    def __init__(self, series: Series, of_date: bool = True, bending: bool = True) -> None:
+        if of_date:
+            erfa_package()
+        self._series = series
+        self._of_date = of_date
+        self._bending = bending
+        self._last: dict[str, tuple[Floats, Floats]] = {}
+
+    def _kept(self, name: str, times: Floats, make: Callable[[], Floats]) -> Floats:
+        """What was made last of the same times, or it is made: two bodies are looked at at once."""
+        last = self._last.get(name)
+        if last is None or not np.array_equal(last[0], times):
+            last = times.copy(), make()
+            self._last[name] = last
+        return last[1]
+
+    def light(self, target: str, observer: str, times: Any) -> Floats:
+        """The seconds that light takes from a body to an observer, where it comes in at seconds since J2000 (TDB)."""
+        at = many(times)
+        return self._from(target, self._series.body(observer, at), at)[1]
+
+    def light_to(self, target: str, source: str, times: Any) -> Floats:
+        """The seconds that light takes to a body, which sets out from another at seconds since J2000 (TDB)."""
+        at = many(times)
+        here, way = self._series.body(source, at), np.zeros(len(at))
+        for _ in range(PASSES):
+            way = floats(length(self._series.body(target, at + way) - here) / LIGHT)
+        return way
+
+    def _from(self, target: str, here: Floats, times: Floats) -> tuple[Floats, Floats]:
+        """Where a body was when its light set out, in km from the observer's place, and how many seconds it took."""
+        place, delay = here, np.zeros(len(times))
+        for _ in range(PASSES):
+            place = self._series.body(target, times - delay) - here
+            delay = floats(length(place) / LIGHT)
+        return place, delay
+
+    def seen(self, target: str, observer: str, frame: str, times: Any) -> Floats:
+        """Where a body is seen at seconds since J2000 (TDB), in km on the axes `eq` or `ecl`: three rows. Its distance
+        is that at which its light set out. NaN where the files have no place of a body at a time, or not at the time
+        at which its light set out."""
+        at = many(times)
+        one_of("frame", frame, ("eq", "ecl"))
+        if target == observer:
+            return np.zeros((3, len(at)))
+        state = self._kept(observer, at, lambda: self._series.body(observer, at, rates=True))
+        here, speed = state[:3], state[3:] / LIGHT
+        place, delay = self._from(target, here, at)
+        far = length(place)
+        toward = place / far
+        if self._bending and target != "sun" and observer not in ("sun", "ssb"):
+            toward = _bent(toward, here, place, self._series.body("sun", at - delay))
+        toward = _aberrated(toward, speed)
+        if self._of_date:
+            frames = self._kept(frame, at, lambda: frames_of_date(frame, at))
+            return floats(np.einsum("nij,jn->in", frames, toward * far))
+        return self._series.turned(frame, toward * far)
+
+
+def _bent(toward: Floats, here: Floats, place: Floats, sun: Floats) -> Floats:
+    """A direction, bent by the mass of the Sun (Explanatory Supplement to the Astronomical Almanac, 7.2.4)."""
+    to_here, to_body = here - sun, here + place - sun
+    near = length(to_here)
+    e, q = to_here / near, to_body / length(to_body)
+    room = np.maximum(1 + (q * e).sum(axis=0), BEHIND)
+    shift = ((toward * q).sum(axis=0) * e - (e * toward).sum(axis=0) * q) * (BENDING / near / room)
+    made = toward + shift
+    return floats(made / length(made))
+
+
+def _aberrated(toward: Floats, speed: Floats) -> Floats:
+    """A direction as an observer at a speed, in units of that of light, sees it."""
+    slow = np.sqrt(1 - (speed**2).sum(axis=0))
+    along = (toward * speed).sum(axis=0)
+    made = toward * slow + (1 + along / (1 + slow)) * speed
+    return floats(made / length(made))

@@ -16,11 +16,9 @@ from pathlib import Path
 from typing import Any, Optional, Union
 
 import numpy as np
-import numpy.typing as npt
 
+from ..seen.vectors import Floats
 from .packages import astropy_iers, erfa_package
-
-Floats = npt.NDArray[np.float64]
 
 DAY = 86_400.0
 YEAR = 365.25 * DAY
@@ -133,11 +131,10 @@ class EarthRotation:
         if self.start == -math.inf and self.end == math.inf:
             return 0.0
         if seconds > self.end:
-            return max(TABLE_ERROR, WALK * ((seconds - self.end) / YEAR) ** 1.5)
+            years = (seconds - self.end) / YEAR
+            return max(TABLE_ERROR, WALK * years * math.sqrt(years))
         if seconds < self.start:
-            years, errors = zip(*ERRORS)
-            standard: float = np.interp(2000.0 + seconds / YEAR, years, errors)
-            return standard
+            return float(np.interp(year_of(seconds), *zip(*ERRORS)).item())
         return TABLE_ERROR
 
     def is_extrapolated(self, start: float, end: float) -> bool:

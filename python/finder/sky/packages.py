@@ -4,13 +4,15 @@ from __future__ import annotations
 
 from typing import Any
 
+from ..seen.apparent import NoErfa
+
 
 def erfa_package() -> Any:
-    """The package erfa; an `ImportError` that names it if it is missing."""
+    """The package erfa; `NoErfa` names it if it is missing."""
     try:
         import erfa
     except ImportError:
-        raise ImportError(
+        raise NoErfa(
             "the sky of a place needs the package erfa (Debian: python3-erfa; pip: pyerfa); it comes with astropy"
         ) from None
     return erfa

@@ -12,7 +12,7 @@ import unittest
 
 import finder
 from finder import Group
-from finder.__main__ import main
+from finder.commands.dispatch import main
 from tests.almanacs import has
 from tests.common import PROGRAM, TOP, YEAR, InFolder, split_year, stand_in
 

@@ -15,11 +15,12 @@ import numpy as np
 
 from .. import spans
 from ..ephemeris.files import WrongFiles
+from ..ephemeris.names import Files, file_names
 from ..ephemeris.series import Series
 from ..process.program import Program, Runs, runs_of
 from ..reports.windows import Windows
 from ..searches.parts import Progress, results
-from ..searches.search import Files, check, file_names
+from ..searches.search import check
 from ..searches.times import Time, ticks_of_time
 from ..searches.words import count, one_of
 from ..seen.apparent import erfa_package

@@ -14,10 +14,10 @@ import numpy as np
 import numpy.typing as npt
 
 from .. import spans
+from ..ephemeris.names import Files
 from ..ephemeris.series import Series
 from ..reports.sets import Spans, TimeSet
 from ..reports.windows import Windows
-from ..searches.search import Files
 from ..seen.curves import Curve
 from ..seen.vectors import Floats
 

@@ -10,8 +10,8 @@ from pathlib import Path
 import numpy as np
 
 from .. import spans
-from ..searches.search import Files, some_names
 from ..seen.vectors import Floats, floats
+from .names import Files, some_names
 
 J2000_DATE = 2_451_545.0
 SIZE = re.compile(rb"^[ \t]*KSIZE=[ \t]*[0-9]+[ \t]+NCOEFF=[ \t]*([0-9]+)[ \t]*\r?\n")

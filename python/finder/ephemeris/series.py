@@ -9,10 +9,10 @@ import numpy as np
 from numpy.polynomial.chebyshev import chebder
 
 from .. import spans
-from ..searches.search import Files
 from ..searches.words import one_of
 from ..seen.vectors import Floats, floats, many
 from .files import number_of, read, seconds_of
+from .names import Files
 
 COLUMNS = "mercury venus emb mars jupiter saturn uranus neptune pluto moon sun".split()
 BODIES = (*COLUMNS, "earth", "ssb")

@@ -9,8 +9,9 @@ from pathlib import Path
 from typing import TYPE_CHECKING, Optional, Union
 
 from .. import spans
+from ..ephemeris.names import Files, some_names
 from ..process.program import Program, runs_of
-from ..searches.search import Body, Files, Kind, Wanted, find_options, is_answer, run, some_names
+from ..searches.search import Body, Kind, Wanted, find_options, is_answer, run
 from ..searches.words import known
 from .windows import Windows
 

@@ -7,8 +7,8 @@ from typing import Optional
 
 import numpy as np
 
+from ..ephemeris.names import Files
 from ..ephemeris.series import Series
-from ..searches.search import Files
 from ..seen.curves import Curve
 from ..seen.values import series_about
 from .windows import Window, Windows

@@ -9,6 +9,7 @@ from typing import TYPE_CHECKING, Any, Optional, Union
 import numpy as np
 
 from .. import spans
+from ..ephemeris.names import Files, some_names
 from ..ephemeris.series import Series
 from ..process.program import runs_of
 from ..reports.certificates import Certificate, certificate
@@ -16,7 +17,7 @@ from ..reports.sets import Span
 from ..reports.windows import Window, Windows
 from ..seen.vectors import Floats, angle, length
 from .numbers import Number, cosine_of_degrees, decimal_text
-from .search import Body, Files, Kind, SetOptions, find, some_names
+from .search import Body, Kind, SetOptions, find
 from .words import known
 
 if TYPE_CHECKING:

@@ -8,12 +8,13 @@ from collections.abc import Callable, Iterable, Sequence
 from typing import Any, Optional, TypeVar, Union
 
 from .. import spans
+from ..ephemeris.names import Files, file_names
 from ..process.program import WAIT, Program, Runs, runs_of
 from ..reports.certificates import Certificate
 from ..reports.sets import TimeSet
 from ..reports.windows import Windows
 from ..spans import Summary
-from .search import Files, check, file_names
+from .search import check
 from .times import Time, ticks_of_time
 from .words import count
 

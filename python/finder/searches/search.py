@@ -2,11 +2,10 @@
 
 from __future__ import annotations
 
-import os
-from collections.abc import Iterable
 from typing import TYPE_CHECKING, Any, Literal, Optional, TypedDict, Union, get_args
 
 from .. import spans
+from ..ephemeris.names import Files, file_names, some_names
 from ..process.program import Program, runs_of
 from ..reports.sets import TimeSet
 from ..reports.windows import Windows
@@ -37,7 +36,6 @@ Frame = Literal["eq", "ecl"]
 Axis = Literal["x", "y", "z"]
 Direction = Literal["any", "rise", "fall"]
 Cut = Literal["half", "third"]
-Files = Union[str, os.PathLike[str], Iterable[Union[str, os.PathLike[str]]]]
 
 
 class SetOptions(TypedDict, total=False):
@@ -84,39 +82,6 @@ WORDS: dict[str, tuple[str, ...]] = {
     "cut": get_args(Cut),
 }
 WHOLE = ("tick", "width", "depth", "workers")
-
-
-def file_names(files: Files) -> list[str]:
-    """The names of one file or of several."""
-    if isinstance(files, (str, os.PathLike)):
-        return [_file_name(files)]
-    if files is None or hasattr(files, "read") or isinstance(files, bytes) or not isinstance(files, Iterable):
-        raise TypeError(f"files are a name, a path, or several of them in order of time, and not {_shown(files)}")
-    return [_file_name(file) for file in files]
-
-
-def some_names(files: Files) -> list[str]:
-    """The names of files, of which there is one at least."""
-    names = file_names(files)
-    if not names:
-        raise ValueError("no file is named: a name, a path, or several of them in order of time are wanted")
-    return names
-
-
-def _file_name(file: Union[str, os.PathLike[str]]) -> str:
-    if not isinstance(file, (str, os.PathLike)):
-        raise TypeError(f"a file is a name or a path, and not {_shown(file)}")
-    name = os.fspath(file)
-    if not name:
-        raise ValueError("no file is named: the name is empty")
-    return name
-
-
-def _shown(file: object) -> str:
-    """What was given in place of a name."""
-    if hasattr(file, "read"):
-        return f"an opened file: give its name, {getattr(file, 'name', 'as a text')!r}"
-    return repr(file)
 
 
 def _refuse_words(options: dict[str, Any], kinds: tuple[str, ...]) -> None:

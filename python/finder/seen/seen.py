@@ -13,9 +13,10 @@ import numpy.typing as npt
 
 from .. import spans
 from ..ephemeris.files import J2000_DATE
+from ..ephemeris.names import Files
 from ..ephemeris.series import Series
 from ..reports.windows import Window, Windows
-from ..searches.search import Body, Files
+from ..searches.search import Body
 from ..searches.times import J2000
 from .apparent import ApparentPlaces
 from .curves import Curve

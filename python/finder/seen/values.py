@@ -9,9 +9,9 @@ import numpy as np
 import numpy.typing as npt
 
 from .. import spans
+from ..ephemeris.names import Files
 from ..ephemeris.series import Series
 from ..reports.windows import Windows
-from ..searches.search import Files
 from .apparent import ApparentPlaces
 from .curves import Curve
 from .seen import GEOMETRIC, Seen, SeenCurve, middles

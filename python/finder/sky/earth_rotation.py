@@ -134,7 +134,8 @@ class EarthRotation:
             years = (seconds - self.end) / YEAR
             return max(TABLE_ERROR, WALK * years * math.sqrt(years))
         if seconds < self.start:
-            return float(np.interp(year_of(seconds), *zip(*ERRORS)).item())
+            known = np.array(ERRORS)
+            return float(np.interp(year_of(seconds), known[:, 0], known[:, 1]))
         return TABLE_ERROR
 
     def is_extrapolated(self, start: float, end: float) -> bool:

@@ -4,15 +4,13 @@ from __future__ import annotations
 
 import argparse
 import datetime
-import difflib
 import sys
-import zoneinfo
 
 from ..almanac.almanac import Machine, almanac_of_seconds, groups_of, search_count
 from ..almanac.entries import Group
 from ..almanac.pages import Format, page
 from ..process.program import runs_of
-from ..seen.scales import FIRST_UTC_YEAR, UTC, Clock, Scale
+from ..seen.scales import FIRST_UTC_YEAR, UTC, Clock, Scale, zone_of
 
 GROUPS = ", ".join(group.value for group in Group)
 DESCRIPTION = f"""\
@@ -40,7 +38,7 @@ def add_words(command: argparse.ArgumentParser) -> None:
     scales = [scale.value for scale in Scale]
     command.add_argument("--format", choices=forms, default="text", help="text without it")
     command.add_argument("--scale", choices=scales, help="of times as seen: utc, or tt for a year before 1972")
-    command.add_argument("--tz", type=_zone, metavar="ZONE", help="a time zone, as Europe/Berlin, for --scale utc")
+    command.add_argument("--tz", type=_zone, metavar="ZONE", help="a time zone, as Europe/Berlin or +02:00")
     command.add_argument("--jobs", type=_count, default=1, metavar="N", help="searches at once: 1 without it")
     command.add_argument("--only", type=_groups, default=tuple(Group), metavar="GROUP,..", help=f"of {GROUPS}")
     command.add_argument("--program", metavar="FINDER", help="the command finder, else that of the package")
@@ -65,13 +63,9 @@ def _count(text: str) -> int:
 
 def _zone(text: str) -> datetime.tzinfo:
     try:
-        return zoneinfo.ZoneInfo(text)
-    except (zoneinfo.ZoneInfoNotFoundError, ValueError, OSError):
-        known = {name.lower(): name for name in sorted(zoneinfo.available_timezones())}
-        if not known:
-            raise argparse.ArgumentTypeError("no time zones are here (Debian: tzdata; pip: tzdata)") from None
-        near = difflib.get_close_matches(text.lower(), known, 1, 0)[0]
-        raise argparse.ArgumentTypeError(f"no time zone is {text!r}: did you mean {known[near]!r}?") from None
+        return zone_of(text)
+    except ValueError as error:
+        raise argparse.ArgumentTypeError(str(error)) from None
 
 
 def _groups(text: str) -> tuple[Group, ...]:
@@ -91,9 +85,7 @@ def _clock(words: argparse.Namespace) -> Clock:
         words.refuse(f"UTC of whole seconds began in {FIRST_UTC_YEAR}: write --scale tt")
     if words.format == Format.ICS.value and first < FIRST_UTC_YEAR:
         words.refuse(f"a calendar is of UTC, which began in {FIRST_UTC_YEAR}: choose another --format")
-    if words.tz:
-        return Clock(scale, words.tz, str(words.tz))
-    return Clock(scale, UTC, scale.value.upper())
+    return Clock(scale, words.tz or UTC)
 
 
 class _Meter:

@@ -2,6 +2,7 @@
 
 from __future__ import annotations
 
+import datetime
 from collections.abc import Iterator, Sequence
 from typing import Any, NamedTuple, Optional, Union, overload
 
@@ -9,6 +10,7 @@ import numpy as np
 import numpy.typing as npt
 
 from .. import spans
+from ..searches.times import Time, seconds_of_length, ticks_of_time
 from .ends import Ends
 
 
@@ -93,6 +95,25 @@ class Spans(Ends, Sequence[Span]):
 
         return Table({"first": self.time("first"), "last": self.time("last")})
 
+    def total(self) -> datetime.timedelta:
+        """How long the spans last together, each from its first tick to its last one, to the microsecond.
+
+        >>> Spans(1, [0, 100], [60, 130]).total()
+        datetime.timedelta(seconds=90)
+        """
+        ticks = int((self.last - self.first).sum())
+        return datetime.timedelta(microseconds=ticks * 1_000_000 // self.tick)
+
+    def longer_than(self, length: Any) -> Spans:
+        """The spans that last longer than a length of time, from their first tick to their last one.
+
+        >>> Spans(1, [0, 100], [60, 130]).longer_than("45s")
+        <Spans: 2000-01-01T12:00:00 2000-01-01T12:01:00>
+        """
+        least = seconds_of_length(length) * self.tick
+        # (of whole ticks those are longer that have more than the whole ticks of the length)
+        return self[self.last - self.first > least // 1]
+
     def _key(self) -> tuple[int, bytes, bytes]:
         return self.tick, self.first.tobytes(), self.last.tobytes()
 
@@ -122,6 +143,13 @@ class Spans(Ends, Sequence[Span]):
         last = np.append(self.first - 1, np.int64(end))
         some = first <= last
         return Spans(self.tick, first[some], last[some])
+
+
+class Total(NamedTuple):
+    """How long a set lasts: its sure times together, and its possible ones. The set itself is between both."""
+
+    sure: datetime.timedelta
+    possible: datetime.timedelta
 
 
 class TimeSet:
@@ -207,8 +235,38 @@ class TimeSet:
             return NotImplemented
         return self._made(other, self.sure._or(other.sure), self.possible._or(other.possible))
 
+    def __sub__(self, other: TimeSet) -> TimeSet:
+        if not isinstance(other, TimeSet):
+            return NotImplemented
+        return self & ~other
+
     def __invert__(self) -> TimeSet:
         return self._made(self, self.possible._not(self.start, self.end), self.sure._not(self.start, self.end))
+
+    def longer_than(self, length: Any) -> TimeSet:
+        """The times in spans that last longer than a length, as `"2h"`, `"90min"`, a `timedelta` or a number of seconds.
+
+        A sure span that is longer lies in a span of the set that is longer, and a span of the set lies in a possible one;
+        so what is made keeps both promises."""
+        return self._made(self, self.sure.longer_than(length), self.possible.longer_than(length))
+
+    def total(self) -> Total:
+        """How long the sure times and the possible times last."""
+        return Total(self.sure.total(), self.possible.total())
+
+    def contains(self, time: Time) -> Optional[bool]:
+        """Whether a time of TDB, or an astropy `Time` of any scale, is in the set: None where it is not known, as the
+        time is possible and not sure. Between two ticks it is known where both say the same. `ValueError` outside of the
+        span of the set."""
+        ticks = [ticks_of_time(time, self.tick, up) for up in (False, True)]
+        if not self.start <= ticks[0] <= ticks[1] <= self.end:
+            raise ValueError(f"the time {time} is outside of the set's span, {self.span}")
+        sure, possible = ([Spans(self.tick, [each], [each])._within(rows) for each in ticks] for rows in self._rows)
+        return True if all(sure) else None if any(possible) else False
+
+    @property
+    def _rows(self) -> tuple[Spans, Spans]:
+        return self.sure, self.possible
 
     def up_to(self, wider: TimeSet) -> TimeSet:
         """A set of which nothing is known but that it has each time of this one, and no time that the wider one has

@@ -20,6 +20,46 @@ ZONE = re.compile(r"(.*[0-9:])(?:Z|z|[+-][0-9]{2}:?[0-9]{2}| ?UTC)")
 NEAR = Fraction(1, 10**9)
 
 
+# A length of time, as `2h`, `1h30m`, `90 min`, `45s`, `3d`.
+LENGTH = re.compile(
+    r"\s*(?:(?P<days>[0-9.]+)\s*(?:d|days?))?\s*(?:(?P<hours>[0-9.]+)\s*(?:h|hours?))?"
+    r"\s*(?:(?P<minutes>[0-9.]+)\s*(?:m|min|minutes?))?\s*(?:(?P<seconds>[0-9.]+)\s*(?:s|seconds?))?\s*"
+)
+UNITS = {"days": 86_400, "hours": 3_600, "minutes": 60, "seconds": 1}
+
+
+def seconds_of_length(length: Any) -> Fraction:
+    """The seconds of a length of time: a number of them, a text, a `timedelta`, a `timedelta64` or an astropy quantity.
+
+    >>> seconds_of_length("1h30m"), seconds_of_length(datetime.timedelta(minutes=2)), seconds_of_length(5)
+    (Fraction(5400, 1), Fraction(120, 1), Fraction(5, 1))
+
+    A `ValueError` or a `TypeError` says how a length is written; none is below 0.
+    """
+    if isinstance(length, str):
+        found = LENGTH.fullmatch(length)
+        given = {unit: text for unit, text in found.groupdict().items() if text} if found else {}
+        try:
+            made = sum((Fraction(text) * UNITS[unit] for unit, text in given.items()), Fraction(0))
+        except ValueError:
+            given = {}
+        if not given:
+            raise ValueError(f"no length of time: {length!r}; write it as 2h, 90min, 1h30m or 45s")
+    elif isinstance(length, datetime.timedelta):
+        made = Fraction(length // datetime.timedelta(microseconds=1), 10**6)
+    elif isinstance(length, np.timedelta64):
+        made = Fraction(int(length.astype("m8[us]").astype(np.int64)), 10**6)
+    elif hasattr(length, "to_value"):
+        made = Fraction(float(length.to_value("s")))
+    elif isinstance(length, (int, float, np.integer, np.floating, Fraction)) and not isinstance(length, bool):
+        made = Fraction(length if isinstance(length, Fraction) else length.item() if hasattr(length, "item") else length)
+    else:
+        raise TypeError(f"a length of time is a number of seconds, a text as '2h', or a timedelta, and not {length!r}")
+    if made < 0:
+        raise ValueError(f"a length of time is not below 0: {length!r}")
+    return made
+
+
 def _of_text(text: str) -> Fraction:
     """The seconds of a text: a day, or a day and a time, with seconds and their fraction or without."""
     found = TEXT.fullmatch(text)

@@ -3,9 +3,13 @@
 from __future__ import annotations
 
 import datetime
+import difflib
+import re
 import warnings
+import zoneinfo
 from dataclasses import dataclass
 from enum import Enum
+from typing import Union
 
 from .. import spans
 from ..ephemeris.files import J2000_DATE
@@ -61,13 +65,69 @@ def last_leap_second() -> datetime.date:
     return datetime.date(int(table["year"][-1]), int(table["month"][-1]), 1)
 
 
+# A zone that is a fixed offset from UTC, as `+02:00`, `-0330` or `UTC+2`.
+OFFSET = re.compile(r"(?:UTC|GMT)?(?P<sign>[+\-−])(?P<hours>[0-9]{1,2})(?::?(?P<minutes>[0-9]{2}))?")
+# The widest offset of a zone in hours.
+WIDEST_OFFSET = 18
+
+
+def zone_of(text: str) -> datetime.tzinfo:
+    """The zone of a name of the IANA's data, as `Europe/Berlin`, or of a fixed offset, as `+02:00`.
+
+    >>> zone_of("+05:30")
+    datetime.timezone(datetime.timedelta(seconds=19800))
+    >>> zone_of("Europe/Berlin")
+    zoneinfo.ZoneInfo(key='Europe/Berlin')
+
+    A `ValueError` names the zone that is nearest to one that is unknown.
+    """
+    offset = OFFSET.fullmatch(text)
+    if offset:
+        length = datetime.timedelta(hours=int(offset["hours"]), minutes=int(offset["minutes"] or 0))
+        if length > datetime.timedelta(hours=WIDEST_OFFSET) or int(offset["minutes"] or 0) >= 60:
+            raise ValueError(f"no time zone is {text!r}: an offset is from -18:00 to +18:00, as +05:30")
+        return datetime.timezone(length if offset["sign"] == "+" else -length)
+    if text.upper() in ("UTC", "Z"):
+        return UTC
+    try:
+        return zoneinfo.ZoneInfo(text)
+    except (zoneinfo.ZoneInfoNotFoundError, ValueError, OSError):
+        known = {name.lower(): name for name in sorted(zoneinfo.available_timezones())}
+    if not known:
+        raise ValueError("no time zones are installed (Debian: tzdata; pip: tzdata): write an offset, as +02:00")
+    near = difflib.get_close_matches(text.lower(), known, 1, 0)[0]
+    raise ValueError(f"no time zone is {text!r}: did you mean {known[near]!r}? An offset is written as +02:00")
+
+
 @dataclass(frozen=True)
 class Clock:
-    """A scale of time; UTC in a zone, whose name is shown."""
+    """A scale of time; UTC in a zone. Its `name` is shown: that of the zone or of the scale, if none is given.
+
+    >>> Clock().name, Clock(Scale.TT).name, Clock(zone=zone_of("Europe/Berlin")).name, Clock.of("+02:00").name
+    ('UTC', 'TT', 'Europe/Berlin', 'UTC+02:00')
+    """
 
     scale: Scale = Scale.UTC
     zone: datetime.tzinfo = UTC
-    name: str = "UTC"
+    name: str = ""
+
+    def __post_init__(self) -> None:
+        if not self.name:
+            object.__setattr__(self, "name", str(self.zone) if self.scale is Scale.UTC else self.scale.value.upper())
+
+    @classmethod
+    def of(cls, words: Union[Clock, Scale, datetime.tzinfo, str]) -> Clock:
+        """The clock of a zone or of a scale: `"Europe/Berlin"`, `"+02:00"`, `"utc"`, `"tt"`, `"tdb"`."""
+        if isinstance(words, Clock):
+            return words
+        if isinstance(words, Scale):
+            return cls(words)
+        if isinstance(words, datetime.tzinfo):
+            return cls(zone=words)
+        if not isinstance(words, str):
+            raise TypeError(f"a clock is a zone as 'Europe/Berlin' or '+02:00', or 'utc', 'tt' or 'tdb', not {words!r}")
+        scales = [scale for scale in Scale if scale.value == words.lower()]
+        return cls(scales[0]) if scales else cls(zone=zone_of(words))
 
     def at(self, seconds: float) -> datetime.datetime:
         """The time of seconds of TDB since J2000, with its zone where the scale is UTC."""

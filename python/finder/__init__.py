@@ -36,58 +36,98 @@ places at any time. `names` says what an almanac calls each event. `intervals` p
 during which something lasts, which is proved where an interval says so.
 """
 
-from .almanac.almanac import SpanNotHeld, almanac
-from .almanac.entries import Almanac, Contact, Entry, Event, Group, Numbers, Status
-from .almanac.names import names
-from .almanac.pages import Format, page
-from .ephemeris.files import WrongFiles
-from .ephemeris.series import Series
-from .process.program import (
-    CertificateRefused,
-    EventRefused,
-    FileFault,
-    FinderError,
-    Interrupted,
-    OutOfMemory,
-    ReadFailed,
-    SpanRefused,
-    TimedOut,
-    TooManyLeaves,
-    WordsRefused,
-    WriteFailed,
-)
-from .reports.certificates import Certificate, Verified, certificate, verify
-from .reports.intervals import Interval, intervals, on_at_start
-from .reports.sets import Span, Spans, TimeSet, WrongSets
-from .reports.windows import Window, Windows
-from .searches.extremes import Extreme, NotProved, greatest, least
-from .searches.numbers import cosine_of_degrees
-from .searches.parts import join, over_files
-from .searches.search import (
-    apsides,
-    check,
-    conjunctions,
-    coordinate,
-    distance,
-    far,
-    find,
-    near,
-    occultations,
-    oppositions,
-    retrograde,
-    separation,
-    separation_extremes,
-    stations,
-    times,
-)
-from .searches.words import BarycentreWarning
-from .seen.apparent import ApparentPlaces, NoErfa
-from .seen.scales import Clock, Scale
-from .seen.seen import Seen, seen
-from .seen.values import Coordinates, Values, values
-from .spans import NoProgram, Summary, WrongParts, WrongReport
+import importlib
+from typing import TYPE_CHECKING, Any
+
+if TYPE_CHECKING:
+    from . import plot as plot
+    from . import spans as spans
+    from .almanac.almanac import SpanNotHeld, almanac
+    from .almanac.entries import Almanac, Contact, Entry, Event, Group, Numbers, Status
+    from .almanac.names import names
+    from .almanac.pages import Format, page
+    from .ephemeris.files import WrongFiles
+    from .ephemeris.series import Series
+    from .process.path import NoProgram
+    from .process.program import (
+        CertificateRefused,
+        EventRefused,
+        FileFault,
+        FinderError,
+        Interrupted,
+        OutOfMemory,
+        ReadFailed,
+        SpanRefused,
+        TimedOut,
+        TooManyLeaves,
+        WordsRefused,
+        WriteFailed,
+    )
+    from .reports.calendar import WrongReport
+    from .reports.certificates import Certificate, Verified, certificate, verify
+    from .reports.intervals import Interval, intervals, on_at_start
+    from .reports.joining import WrongParts
+    from .reports.report import Summary
+    from .reports.sets import Span, Spans, TimeSet, WrongSets
+    from .reports.windows import Window, Windows
+    from .searches.extremes import Extreme, NotProved, greatest, least
+    from .searches.numbers import cosine_of_degrees
+    from .searches.parts import join, over_files
+    from .searches.search import (
+        apsides,
+        check,
+        conjunctions,
+        coordinate,
+        distance,
+        far,
+        find,
+        near,
+        occultations,
+        oppositions,
+        retrograde,
+        separation,
+        separation_extremes,
+        stations,
+        times,
+    )
+    from .searches.words import BarycentreWarning
+    from .seen.apparent import ApparentPlaces, NoErfa
+    from .seen.scales import Clock, Scale
+    from .seen.seen import Seen, seen
+    from .seen.values import Coordinates, Values, values
 
 __version__ = "0.1"
+
+# The module of each public name: it is imported when one of its names is first used.
+_MODULES = {
+    "almanac.almanac": "SpanNotHeld almanac",
+    "almanac.entries": "Almanac Contact Entry Event Group Numbers Status",
+    "almanac.names": "names",
+    "almanac.pages": "Format page",
+    "ephemeris.files": "WrongFiles",
+    "ephemeris.series": "Series",
+    "process.path": "NoProgram",
+    "process.program": "CertificateRefused EventRefused FileFault FinderError Interrupted OutOfMemory ReadFailed "
+    "SpanRefused TimedOut TooManyLeaves WordsRefused WriteFailed",
+    "reports.calendar": "WrongReport",
+    "reports.certificates": "Certificate Verified certificate verify",
+    "reports.intervals": "Interval intervals on_at_start",
+    "reports.joining": "WrongParts",
+    "reports.report": "Summary",
+    "reports.sets": "Span Spans TimeSet WrongSets",
+    "reports.windows": "Window Windows",
+    "searches.extremes": "Extreme NotProved greatest least",
+    "searches.numbers": "cosine_of_degrees",
+    "searches.parts": "join over_files",
+    "searches.search": "apsides check conjunctions coordinate distance far find near occultations oppositions "
+    "retrograde separation separation_extremes stations times",
+    "searches.words": "BarycentreWarning",
+    "seen.apparent": "ApparentPlaces NoErfa",
+    "seen.scales": "Clock Scale",
+    "seen.seen": "Seen seen",
+    "seen.values": "Coordinates Values values",
+}
+_HOMES = {name: module for module, names in _MODULES.items() for name in names.split()}
 
 __all__ = [
     "Almanac",
@@ -166,3 +206,23 @@ __all__ = [
     "values",
     "verify",
 ]
+
+# (a function has the name of its package: once the package is imported, no later import hides the function by it)
+for _name in ("almanac", "seen"):
+    importlib.import_module(f".{_name}", __name__)
+    del globals()[_name]
+
+
+def __getattr__(name: str) -> Any:
+    """A public name, whose module is imported when it is first used."""
+    if name in ("plot", "spans"):
+        return importlib.import_module(f".{name}", __name__)
+    if name not in _HOMES:
+        raise AttributeError(f"module {__name__!r} has no attribute {name!r}")
+    value = getattr(importlib.import_module(f".{_HOMES[name]}", __name__), name)
+    globals()[name] = value
+    return value
+
+
+def __dir__() -> list[str]:
+    return sorted([*globals(), *__all__, "plot", "spans"])

@@ -3,7 +3,10 @@ hints of their likely causes."""
 
 import inspect
 import itertools
+import os
 import pickle
+import subprocess
+import sys
 import typing
 import warnings
 
@@ -166,8 +169,18 @@ class Surface(InFolder):
         control = (TOP / "packaging/control").read_text()
         self.assertIn(f"\nVersion: {finder.__version__}\n", control)
         self.assertEqual(sorted(finder.__all__), list(finder.__all__))
+        self.assertEqual(sorted(finder._HOMES), list(finder.__all__))
         for name in finder.__all__:
             self.assertTrue(inspect.getdoc(getattr(finder, name)), name)
+            self.assertEqual(getattr(finder, name).__module__, "finder", name)
+        self.assertLessEqual({*finder.__all__, "plot", "spans"}, set(dir(finder)))
+
+    def test_what_is_imported(self):
+        """A name is imported when it is first used: reports are read without numpy."""
+        tried = "import sys; sys.modules['numpy'] = None; from finder import spans; print(spans.time_text(0))"
+        variables = {**os.environ, "PYTHONPATH": str(TOP / "python")}
+        done = subprocess.run([sys.executable, "-c", tried], env=variables, capture_output=True, text=True, check=False)
+        self.assertEqual((done.stdout, done.stderr), ("2000-01-01T12:00:00\n", ""))
 
     def test_windows_have_their_times(self):
         for tick, text in ((1, "2000-01-04T12:23:24"), (1000, "2000-01-04T12:23:23.735")):

@@ -2,6 +2,7 @@
 
 import os
 import pickle
+import shutil
 import signal
 import subprocess
 import sys
@@ -134,11 +135,11 @@ class Statuses(InFolder):
         self.addCleanup(os.environ.__setitem__, "FINDER", str(PROGRAM))
         self.assertEqual(find_program(), str(TOP / "finder"))
         self.assertEqual(find_program("a"), "a")
-        copy = self.folder / "spans.py"
-        copy.write_bytes((TOP / "python/finder/spans.py").read_bytes())
-        tried = f"import sys; sys.path.insert(0, {str(self.folder)!r}); import spans; print(spans.find_program())"
-        found = stand_in(self.folder, "exit 1")
-        for path, said in ((str(self.folder), f"{found}\n"), ("/nonexistent", "")):
+        shutil.copytree(TOP / "python/finder", self.folder / "finder", ignore=shutil.ignore_patterns("__pycache__"))
+        tried = f"import sys; sys.path.insert(0, {str(self.folder)!r}); from finder import spans as s; print(s.find_program())"
+        (self.folder / "path").mkdir()
+        found = stand_in(self.folder / "path", "exit 1")
+        for path, said in ((str(found.parent), f"{found}\n"), ("/nonexistent", "")):
             done = subprocess.run(
                 [sys.executable, "-c", tried], env={"PATH": path}, capture_output=True, text=True, check=False
             )

@@ -18,6 +18,7 @@ from ..ephemeris.files import WrongFiles
 from ..ephemeris.names import Files, file_names
 from ..ephemeris.series import Series
 from ..process.program import Program, Runs, runs_of
+from ..public import public
 from ..reports.windows import Windows
 from ..searches.parts import Progress, results
 from ..searches.search import check
@@ -38,6 +39,7 @@ YEAR = 365.25 * spans.DAY
 PAD = 25.0
 
 
+@public
 class SpanNotHeld(WrongFiles):
     """The files do not hold all of the span of an almanac."""
 
@@ -64,6 +66,7 @@ def search_count(groups: Iterable[Group]) -> int:
     return sum(len(recipe.searches) for recipe in recipes(groups))
 
 
+@public
 def almanac(
     files: Files,
     start: Time,

@@ -10,12 +10,14 @@ from enum import Enum
 from typing import Optional
 
 from .. import spans
+from ..public import public
 from ..seen.vectors import Floats
 
 # The planets of an almanac, in order from the Sun; from Jupiter on they are the barycentres of their systems.
 PLANETS = ("mercury", "venus", "mars", "jupiter", "saturn", "uranus", "neptune")
 
 
+@public
 class Group(Enum):
     """The groups of entries, by the names that `--only` takes."""
 
@@ -42,6 +44,7 @@ GROUP_TITLES = {
 }
 
 
+@public
 class Event(Enum):
     """What happens. The names up to that of the elongation are those that `finder.names` gives."""
 
@@ -103,6 +106,7 @@ class EclipseKind(Enum):
     HYBRID = "hybrid"
 
 
+@public
 class Status(Enum):
     """How far an entry is proved and solved."""
 
@@ -111,6 +115,7 @@ class Status(Enum):
     UNSOLVED = "unsolved"
 
 
+@public
 @dataclass(frozen=True)
 class Numbers:
     """What is said of an event, in doubles; None where it is not said. The unit ends the name: km, au, degrees (`deg`),
@@ -131,6 +136,7 @@ class Numbers:
     least_angle_arcsec: Optional[float] = None
 
 
+@public
 @dataclass(frozen=True)
 class Contact:
     """A moment of an event: its window, whose search `request` is, and the time `seen` at which it is seen.
@@ -161,6 +167,7 @@ class Contact:
         return Status.CERTIFIED if self.seen is not None else Status.UNSOLVED
 
 
+@public
 @dataclass(frozen=True)
 class Entry:
     """A line of an almanac: `seconds` is its time as it is seen, and `contacts` are the moments that it rests on, of
@@ -194,6 +201,7 @@ class Curves:
     retrograde_at_start: tuple[str, ...]
 
 
+@public
 @dataclass(frozen=True)
 class Almanac:
     """The entries of a span in order of time, from `start` and before `end`, and what they come from: the `groups` that

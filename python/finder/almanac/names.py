@@ -7,6 +7,7 @@ from typing import Optional
 import numpy as np
 import numpy.typing as npt
 
+from ..public import public
 from ..reports.windows import Windows
 
 PLANETS = "mercury venus mars jupiter saturn uranus neptune pluto".split()
@@ -56,6 +57,7 @@ SEASONS: dict[str, Pair] = {
 }
 
 
+@public
 def names(
     found: Windows, east: Optional[npt.NDArray[np.bool_]] = None, turn: Optional[npt.NDArray[np.str_]] = None
 ) -> list[str]:

@@ -5,6 +5,7 @@ from __future__ import annotations
 from enum import Enum
 from typing import Union
 
+from ..public import public
 from ..searches.words import one_of
 from ..seen.scales import Clock
 from .entries import Almanac
@@ -13,6 +14,7 @@ from .ics import ics_of
 from .tables import csv_of, json_of, text_of
 
 
+@public
 class Format(Enum):
     """A form of an almanac, by the names that `--format` takes."""
 
@@ -26,6 +28,7 @@ class Format(Enum):
 MAKERS = {Format.TEXT: text_of, Format.HTML: html_of, Format.CSV: csv_of, Format.JSON: json_of, Format.ICS: ics_of}
 
 
+@public
 def page(found: Almanac, form: Union[Format, str] = Format.TEXT, clock: Clock = Clock()) -> str:
     """An almanac in a form, as `"html"`, with its times by a clock, which is UTC unless another is given."""
     if not isinstance(form, Format):

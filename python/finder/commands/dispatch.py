@@ -9,8 +9,7 @@ import sys
 from collections.abc import Sequence
 from typing import Optional, Union
 
-from ..process.program import FinderError
-from ..spans import NoProgram, find_program
+from ..process.path import NoProgram, find_program
 from .words import OutputFailed, Parser, print_bytes
 
 # The words of the program, which are passed on, and what each does.
@@ -100,6 +99,8 @@ def pass_on(words: Sequence[str]) -> int:
 
 def _run(word: str, rest: list[str]) -> int:
     """Runs a word of the package, and prints what it returns."""
+    from ..process.program import FinderError
+
     module = importlib.import_module(f"{__package__}.{word}")
     parser = Parser(word, program_name(), module.DESCRIPTION, f"{module.EXAMPLES}\n\n{STATUS}")
     module.add_words(parser)

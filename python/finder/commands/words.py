@@ -5,7 +5,7 @@ from __future__ import annotations
 import argparse
 import os
 
-from ..spans import write
+from .streams import write
 
 
 class OutputFailed(Exception):

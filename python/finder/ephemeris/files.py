@@ -10,6 +10,7 @@ from pathlib import Path
 import numpy as np
 
 from .. import spans
+from ..public import public
 from ..seen.vectors import Floats, floats
 from .names import Files, some_names
 
@@ -24,6 +25,7 @@ DATES = 120
 JPL_NAME = re.compile(r"(?:header|asc[pm][0-9]+)\.([0-9]+t?)(?:_[0-9]+)?")
 
 
+@public
 class WrongFiles(ValueError):
     """Files that are not one series in order of time, with the header first, or that do not reach into a span."""
 

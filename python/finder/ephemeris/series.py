@@ -9,6 +9,7 @@ import numpy as np
 from numpy.polynomial.chebyshev import chebder
 
 from .. import spans
+from ..public import public
 from ..searches.words import one_of
 from ..seen.vectors import Floats, floats, many
 from .files import number_of, read, seconds_of
@@ -29,6 +30,7 @@ def _sums(series: Floats, at: Floats) -> Floats:
     return floats(series[0] - last + at * made)
 
 
+@public
 class Series:
     """The Chebyshev series of JPL's files, read once, for places of bodies in km and km/s, in doubles and unproved.
 

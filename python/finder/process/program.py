@@ -14,6 +14,7 @@ from dataclasses import dataclass, field
 from typing import Optional, Union
 
 from .. import spans
+from ..public import public
 from ..searches.words import seconds
 from .hints import TOO_LONG, causes_of, told
 from .watch import watch
@@ -24,6 +25,7 @@ NUMBERED = re.compile(r"(?:^|: )([0-9]+) ([A-Z][A-Za-z]*)(?: (\S+))?$")
 FAULT = re.compile(r"finder: file (.*) line ([0-9]+): [0-9]+ [A-Za-z]+(?: \S+)?", re.DOTALL)
 
 
+@public
 class FinderError(Exception):
     """The command ended without a report: `status` is its exit status, `line` what it wrote to standard error."""
 
@@ -63,10 +65,12 @@ class FinderError(Exception):
         return told(causes_of(self.status, self.number, self.detail))
 
 
+@public
 class WordsRefused(FinderError, ValueError):
     """Status 2: the command line is invalid."""
 
 
+@public
 class FileFault(FinderError, ValueError):
     """Status 3: the files have a fault, which is at a line of a file."""
 
@@ -83,30 +87,37 @@ class FileFault(FinderError, ValueError):
         return int(found[2]) if found else None
 
 
+@public
 class ReadFailed(FinderError, OSError):
     """Status 4: a file is not there, may not be read, or a read failed."""
 
 
+@public
 class WriteFailed(FinderError, OSError):
     """Status 5: the pipe to this process failed."""
 
 
+@public
 class SpanRefused(FinderError, ValueError):
     """Status 6: the span holds no tick, or is not within the files."""
 
 
+@public
 class EventRefused(FinderError, ValueError):
     """Status 7: the files do not have this event."""
 
 
+@public
 class OutOfMemory(FinderError, MemoryError):
     """Status 8: there was no memory."""
 
 
+@public
 class TooManyLeaves(FinderError, ValueError):
     """Status 9: the search has more leaves than a search may have."""
 
 
+@public
 class CertificateRefused(FinderError, ValueError):
     """Status 10: a line of a certificate breaks a rule, the first of its lines that does."""
 
@@ -117,10 +128,12 @@ class CertificateRefused(FinderError, ValueError):
         return int(found[1]) if found else None
 
 
+@public
 class Interrupted(FinderError):
     """The process was ended by a signal, whose number is `-status`."""
 
 
+@public
 class TimedOut(FinderError, TimeoutError):
     """The search took longer than its `timeout`, and was ended."""
 

@@ -11,6 +11,7 @@ from typing import TYPE_CHECKING, Optional, Union
 from .. import spans
 from ..ephemeris.names import Files, some_names
 from ..process.program import Program, runs_of
+from ..public import public
 from ..searches.search import Body, Kind, Wanted, find_options, is_answer, run
 from ..searches.words import known
 from .windows import Windows
@@ -25,6 +26,7 @@ VALUES = {"coord": ("ref",), "radius": ("ref",), "sep": ("ref",)}
 RADII = ("radius1", "radius2")
 
 
+@public
 @dataclass(frozen=True, repr=False)
 class Certificate:
     """The certificate of a search: the pieces into which it cut the span from `start` to `end`, each with a mark that
@@ -97,6 +99,7 @@ class Certificate:
         return f"<Certificate of {self.request!r}: {len(self)} pieces>"
 
 
+@public
 @dataclass(frozen=True)
 class Verified:
     """What `verify` says of a certificate that breaks no rule: the windows of its pieces, and their number."""
@@ -105,6 +108,7 @@ class Verified:
     leaves: int
 
 
+@public
 def certificate(
     files: Files, kind: Kind, target: Body, second: Optional[Body] = None, **wanted: Unpack[Wanted]
 ) -> Certificate:
@@ -117,6 +121,7 @@ def certificate(
     return made
 
 
+@public
 def verify(
     files: Files,
     certificate: Union[Certificate, str, os.PathLike[str]],

@@ -9,6 +9,7 @@ import numpy as np
 
 from ..ephemeris.names import Files
 from ..ephemeris.series import Series
+from ..public import public
 from ..seen.curves import Curve
 from ..seen.values import series_about
 from .windows import Window, Windows
@@ -17,6 +18,7 @@ from .windows import Window, Windows
 MOMENTS = ("conj", "oppo")
 
 
+@public
 @dataclass(frozen=True)
 class Interval:
     """The times between two windows that follow one another, at which the function of a search is 0 or more: something
@@ -42,6 +44,7 @@ class Interval:
         return self.on
 
 
+@public
 def intervals(
     found: Windows, files: Optional[Files] = None, *, series: Optional[Series] = None
 ) -> list[Interval]:
@@ -78,6 +81,7 @@ def intervals(
     return made
 
 
+@public
 def on_at_start(found: Windows, files: Optional[Files] = None, *, series: Optional[Series] = None) -> Optional[bool]:
     """Whether the function of a search for both directions is 0 or more at the start of its span: by the first window
     where that is certain, which is proved; else in doubles of the files, which is not; None without files."""

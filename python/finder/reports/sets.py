@@ -10,14 +10,17 @@ import numpy as np
 import numpy.typing as npt
 
 from .. import spans
+from ..public import public
 from ..searches.times import Time, seconds_of_length, ticks_of_time
 from .ends import Ends
 
 
+@public
 class WrongSets(ValueError):
     """Sets of different spans or ticks, of which no set is made."""
 
 
+@public
 class Span(NamedTuple):
     """Times in a row: the first and the last tick since J2000 (TDB), both of them in it."""
 
@@ -25,6 +28,7 @@ class Span(NamedTuple):
     last: int
 
 
+@public
 class Spans(Ends, Sequence[Span]):
     """Spans in order of time. Between two of them there is a tick that is in none.
 
@@ -152,6 +156,7 @@ class Total(NamedTuple):
     possible: datetime.timedelta
 
 
+@public
 class TimeSet:
     """A set of times of a span, which are ticks from `start` to `end`, both among them.
 

@@ -9,10 +9,12 @@ import numpy as np
 import numpy.typing as npt
 
 from .. import spans
+from ..public import public
 from ..spans import Report
 from .ends import End, Ends, datetime64_of
 
 
+@public
 class Window(spans.Window):
     """A window: its first and its last tick since J2000 (TDB), and its turn, which is `rise` or `fall` where it is
     certain, and None where it is undecided. It is a tuple of these three; `tick` of its ticks are in a second."""
@@ -40,6 +42,7 @@ def _end_of(window: Window, which: End) -> int:
     return window.first if which == "first" else window.last
 
 
+@public
 class Windows(Ends, Sequence[Window]):
     """The windows of a search, in order of time, after `start` and up to `end`.
 

@@ -12,6 +12,7 @@ from .. import spans
 from ..ephemeris.names import Files, some_names
 from ..ephemeris.series import Series
 from ..process.program import runs_of
+from ..public import public
 from ..reports.certificates import Certificate, certificate
 from ..reports.sets import Span
 from ..reports.windows import Window, Windows
@@ -34,10 +35,12 @@ DIGITS, MOST_PLACES = 18, 9
 Margin = Union[Number, Fraction, None]
 
 
+@public
 class NotProved(ValueError):
     """The two searches do not prove an extreme to this margin."""
 
 
+@public
 @dataclass(frozen=True)
 class Extreme:
     """The least or the greatest distance (km) or separation (degrees) of a span, proved to a margin.
@@ -71,6 +74,7 @@ class Extreme:
         return f"<Extreme {self.quantity} {self.value!r} {unit}, proved to {self.margin!r}, in {self.window}>"
 
 
+@public
 def least(
     files: Files,
     target: Body,
@@ -90,6 +94,7 @@ def least(
     return _extreme(files, target, second, -1, margin, options)
 
 
+@public
 def greatest(
     files: Files,
     target: Body,

@@ -9,6 +9,8 @@ from decimal import Decimal
 from fractions import Fraction
 from typing import Any, Union
 
+from ..public import public
+
 Number = Union[int, float, str, Decimal, Any]
 PLACES = 18
 # The angles of a whole fraction of a turn whose cosine is a fraction: no others have one.
@@ -58,6 +60,7 @@ def _cosine(angle: Decimal) -> Decimal:
     return total
 
 
+@public
 def cosine_of_degrees(degrees: Number, *, up: bool = False) -> str:
     """The cosine of an angle from 0 to 180 degrees, as a decimal of at most 18 places, rounded down: the greatest one
     that is not above it. So the angle whose cosine it is, is the given one or a greater one, by about 10^-18 radians

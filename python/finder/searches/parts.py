@@ -10,6 +10,7 @@ from typing import Any, Optional, TypeVar, Union
 from .. import spans
 from ..ephemeris.names import Files, file_names
 from ..process.program import WAIT, Program, Runs, runs_of
+from ..public import public
 from ..reports.certificates import Certificate
 from ..reports.sets import TimeSet
 from ..reports.windows import Windows
@@ -23,6 +24,7 @@ Progress = Callable[[int], object]
 Found = TypeVar("Found", bound=Union[Windows, TimeSet, Certificate])
 
 
+@public
 def join(parts: Iterable[Found], files: Optional[Summary] = None) -> Found:
     """The windows, the set or the certificate of the whole span, of those of its parts, in order. `WrongParts` where
     they are of different requests, overlap or do not meet. Certificates have to meet at a border, or a tick before one:
@@ -43,6 +45,7 @@ def join(parts: Iterable[Found], files: Optional[Summary] = None) -> Found:
     return made
 
 
+@public
 def over_files(
     search: Callable[..., Found],
     files: Files,

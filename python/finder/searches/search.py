@@ -7,6 +7,7 @@ from typing import TYPE_CHECKING, Any, Literal, Optional, TypedDict, Union, get_
 from .. import spans
 from ..ephemeris.names import Files, file_names, some_names
 from ..process.program import Program, runs_of
+from ..public import public
 from ..reports.sets import TimeSet
 from ..reports.windows import Windows
 from ..spans import Summary
@@ -113,6 +114,7 @@ def is_answer(report: Union[spans.Report, spans.CertificateText, TimeSet], optio
     return all(value == str(wanted[name]) for name, value in said.items() if name in wanted)
 
 
+@public
 def find(
     files: Files,
     kind: Kind,
@@ -192,6 +194,7 @@ def find_options(
     return options
 
 
+@public
 def times(
     files: Files,
     kind: SetKind,
@@ -261,43 +264,51 @@ def _time_word(time: Optional[Time], tick: int, up: bool) -> Optional[str]:
     return spans.time_text(ticks_of_time(time, tick, up), tick)
 
 
+@public
 def check(files: Files, *, program: Program = None, timeout: Optional[float] = None) -> Summary:
     """The span, the blocks and the columns of files, which are read by all rules of their format."""
     return spans.read_summary(runs_of(program, timeout).run(["check", "--", *some_names(files)]))
 
 
+@public
 def coordinate(files: Files, target: Body, axis: Axis, value: Number = 0, **options: Unpack[Options]) -> Windows:
     """The times at which a coordinate of a body passes a value, in km: `rise` where it grows past it."""
     return find(files, "coord", target, axis=axis, ref=value, **options)
 
 
+@public
 def distance(files: Files, target: Body, value: Number, **options: Unpack[Options]) -> Windows:
     """The times at which a body's distance from the observer passes a value, in km: `rise` where it grows past it."""
     return find(files, "radius", target, ref=value, **options)
 
 
+@public
 def apsides(files: Files, target: Body, **options: Unpack[Options]) -> Windows:
     """The times at which a body's distance from the observer is least (`rise`) or greatest (`fall`)."""
     return find(files, "apsis", target, **options)
 
 
+@public
 def conjunctions(files: Files, target: Body, second: Body, **options: Unpack[Options]) -> Windows:
     """The times at which two bodies have one longitude, of `frame`: right ascension in `eq`, which is the default, and
     ecliptic longitude in `ecl`. `rise` where the second body's grows past the target's."""
     return find(files, "conj", target, second, **options)
 
 
+@public
 def oppositions(files: Files, target: Body, second: Body = "sun", **options: Unpack[Options]) -> Windows:
     """The times at which the longitudes of two bodies are opposite: `rise` where the target's grows past the one
     opposite to the second body's."""
     return find(files, "oppo", target, second, **options)
 
 
+@public
 def stations(files: Files, target: Body, **options: Unpack[Options]) -> Windows:
     """The times at which a body's motion in longitude turns: `rise` where it turns from backward to forward."""
     return find(files, "station", target, **options)
 
 
+@public
 def separation(
     files: Files,
     target: Body,
@@ -315,11 +326,13 @@ def separation(
     return find(files, "sep", target, second, ref=cosine_of_degrees(degrees) if cosine is None else cosine, **options)
 
 
+@public
 def separation_extremes(files: Files, target: Body, second: Body, **options: Unpack[Options]) -> Windows:
     """The times at which the angle between two bodies is greatest (`rise`) or least (`fall`)."""
     return find(files, "sepext", target, second, **options)
 
 
+@public
 def occultations(
     files: Files,
     target: Body,
@@ -335,6 +348,7 @@ def occultations(
     return find(files, kind, target, second, radii=radii_of(radii, apart), **options)
 
 
+@public
 def near(
     files: Files,
     target: Body,
@@ -354,6 +368,7 @@ def near(
     return _by_angle(files, target, second, "atleast", degrees, cosine, options)
 
 
+@public
 def far(
     files: Files,
     target: Body,
@@ -396,6 +411,7 @@ def _by_angle(
     return sure.up_to(possible[0]) if possible else sure
 
 
+@public
 def retrograde(files: Files, target: Body, **options: Unpack[SetOptions]) -> TimeSet:
     """The times at which a body moves backward in longitude, of `frame`; at the others it moves forward or rests."""
     return times(files, "station", target, relation="less", **options)

@@ -12,6 +12,8 @@ from typing import Any, Optional
 
 import numpy as np
 
+from ..public import public
+
 # The kinds that are of directions, which are asked for from a planet, and those of a distance.
 DIRECTIONS = ("conj", "oppo", "station", "sep", "sepext", "any", "full", "annular")
 DISTANCES = ("radius", "apsis")
@@ -34,6 +36,7 @@ MEANT = {
 }
 
 
+@public
 class BarycentreWarning(UserWarning):
     """A search from the barycentre of the solar system, which nobody named, for what is asked from a planet."""
 

@@ -10,6 +10,7 @@ import numpy as np
 from .. import spans
 from ..ephemeris.files import J2000_DATE
 from ..ephemeris.series import Series
+from ..public import public
 from ..searches.words import one_of
 from .curves import LIGHT
 from .vectors import Floats, floats, length, many
@@ -25,6 +26,7 @@ HALF_DAY = spans.DAY / 2
 NODES = np.arange(-2, 4)
 
 
+@public
 class NoErfa(ImportError):
     """Equator and equinox of date want the package `erfa` (Debian: python3-erfa; pip: pyerfa), as astropy does."""
 
@@ -87,6 +89,7 @@ def frames_of_date(frame: str, times: Floats) -> Floats:
     return floats(erfa.rx(mean + obliquity, rows) if frame == "ecl" else rows)
 
 
+@public
 class ApparentPlaces:
     """Places of bodies as they are seen from one another, in doubles and unproved.
 

@@ -13,6 +13,7 @@ from typing import Union
 
 from .. import spans
 from ..ephemeris.files import J2000_DATE
+from ..public import public
 from .apparent import erfa_package
 
 UTC = datetime.timezone.utc
@@ -21,6 +22,7 @@ J2000 = datetime.datetime(2000, 1, 1, 12)
 FIRST_UTC_YEAR = 1972
 
 
+@public
 class Scale(Enum):
     """A scale of time."""
 
@@ -99,6 +101,7 @@ def zone_of(text: str) -> datetime.tzinfo:
     raise ValueError(f"no time zone is {text!r}: did you mean {known[near]!r}? An offset is written as +02:00")
 
 
+@public
 @dataclass(frozen=True)
 class Clock:
     """A scale of time; UTC in a zone. Its `name` is shown: that of the zone or of the scale, if none is given.

@@ -15,6 +15,7 @@ from .. import spans
 from ..ephemeris.files import J2000_DATE
 from ..ephemeris.names import Files
 from ..ephemeris.series import Series
+from ..public import public
 from ..reports.windows import Window, Windows
 from ..searches.search import Body
 from ..searches.times import J2000
@@ -73,6 +74,7 @@ class SeenCurve(Curve):
         return floats(90 - abs(wrapped(ahead)))
 
 
+@public
 class Seen:
     """When the events of `found`, the windows of a search, are seen: a time beside each, in doubles and unproved.
 
@@ -141,6 +143,7 @@ def middles(found: Windows) -> Floats:
     return floats((found.first - 1.0 + found.last) / 2 / found.tick)
 
 
+@public
 def seen(
     found: Windows,
     files: Optional[Files] = None,

@@ -11,6 +11,7 @@ import numpy.typing as npt
 from .. import spans
 from ..ephemeris.names import Files
 from ..ephemeris.series import Series
+from ..public import public
 from ..reports.windows import Windows
 from .apparent import ApparentPlaces
 from .curves import Curve
@@ -23,6 +24,7 @@ AU = 149_597_870.7
 PLACE_UNITS = {"distance_km": "km", "distance_au": "AU", "ra": "deg", "dec": "deg", "lon": "deg", "lat": "deg"}
 
 
+@public
 @dataclass(frozen=True)
 class Coordinates:
     """Where a body is from the observer, as arrays with a number for each window: `distance_km`, and in degrees `ra` (0
@@ -41,6 +43,7 @@ class Coordinates:
         return floats(self.distance_km / AU)
 
 
+@public
 @dataclass(frozen=True)
 class Values:
     """What `values` gives, in doubles and unproved: arrays with a number for each window.
@@ -106,6 +109,7 @@ class Values:
         return {"about": repr(self), "function": self.unit}
 
 
+@public
 def values(
     found: Windows,
     files: Optional[Files] = None,

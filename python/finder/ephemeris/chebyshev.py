@@ -1,0 +1,89 @@
+"""Chebyshev series: nodes, the series through values there, sums and rates, in doubles."""
+
+from __future__ import annotations
+
+from dataclasses import dataclass
+from functools import lru_cache
+
+import numpy as np
+import numpy.typing as npt
+from numpy.polynomial.chebyshev import chebder, chebvander
+
+from ..seen.vectors import Floats, floats
+
+Numbers = npt.NDArray[np.int_]
+
+
+def sums(series: Floats, at: Floats) -> Floats:
+    """Sums of Chebyshev series, whose coefficients are along the first axis, each at its place from -1 to 1, by
+    Clenshaw's recurrence (Clenshaw 1955)."""
+    if len(series) == 1:
+        return floats(series[0] + 0 * at)
+    twice = 2 * at
+    last, made = np.zeros_like(series[0]), series[-1] + 0 * at
+    for row in series[-2:0:-1]:
+        last, made = made, row - last + twice * made
+    return floats(series[0] - last + at * made)
+
+
+@lru_cache(maxsize=None)
+def nodes(count: int) -> Floats:
+    """The roots of T_n, where values give the coefficients of a series."""
+    return floats(np.cos(np.pi * (np.arange(count) + 0.5) / count))
+
+
+@lru_cache(maxsize=None)
+def transform(count: int) -> Floats:
+    """The matrix that takes values at the nodes to the coefficients of the series through them."""
+    made = 2.0 / count * chebvander(nodes(count), count - 1).T  # type: ignore[no-untyped-call]
+    made[0] /= 2
+    return floats(made)
+
+
+@lru_cache(maxsize=None)
+def rates(count: int) -> Floats:
+    """The matrix that takes values at the nodes to the derivatives of their series there, by the argument."""
+    derived = chebder(transform(count))  # type: ignore[no-untyped-call]
+    return floats(chebvander(nodes(count), count - 2) @ derived)  # type: ignore[no-untyped-call]
+
+
+@dataclass(frozen=True)
+class Grid:
+    """Granules of one length that follow one another: `count` of `length` seconds, from `start`, a whole second since
+    J2000 (TDB)."""
+
+    start: int
+    length: float
+    count: int
+
+    @property
+    def end(self) -> float:
+        """The end of the last granule."""
+        return self.start + self.length * self.count
+
+    @property
+    def starts(self) -> Floats:
+        """The seconds at which the granules begin."""
+        return floats(self.start + self.length * np.arange(self.count))
+
+    def times(self, count: int) -> tuple[Floats, Floats]:
+        """The times of so many nodes in each granule, granule by granule, as doubles; and by how many seconds the nodes
+        are after them: a double of a time today has 10^-7 seconds, in which a satellite moves by a millimetre."""
+        starts = self.starts[:, None]
+        offsets = self.length * (nodes(count) + 1) / 2
+        made = starts + offsets
+        return made.ravel(), (offsets - (made - starts)).ravel()
+
+    def series(self, values: Floats, late: Floats, count: int) -> Floats:
+        """The coefficients of the series through values, whose last axis is that of the times of `count` nodes: by
+        granule, component and coefficient. The values are carried on to the nodes by the rate of their own series."""
+        shaped = values.reshape(-1, self.count, count)
+        if count > 1:
+            slopes = np.einsum("kn,agn->agk", rates(count), shaped) * (2 / self.length)
+            shaped = shaped + slopes * late.reshape(self.count, count)
+        return floats(np.einsum("kn,agn->gak", transform(count), shaped))
+
+    def sums(self, series: Floats, granules: Numbers, times: Floats) -> Floats:
+        """The sums of series of granules, each at a time within its granule: components by times."""
+        at = 2 * (times - self.starts[granules]) / self.length - 1
+        return sums(np.moveaxis(series[granules], (2, 1, 0), (0, 1, 2)), at)

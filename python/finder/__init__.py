@@ -46,8 +46,11 @@ if TYPE_CHECKING:
     from .almanac.entries import Almanac, Contact, Entry, Event, Group, Numbers, Status
     from .almanac.names import names
     from .almanac.pages import Format, page
+    from .ephemeris.ephemeris import Ephemeris
     from .ephemeris.files import WrongFiles
     from .ephemeris.series import Series
+    from .ephemeris.sky_text import SkyText
+    from .ephemeris.stars import Star
     from .process.path import NoProgram
     from .process.program import (
         CertificateRefused,
@@ -104,8 +107,11 @@ _MODULES = {
     "almanac.entries": "Almanac Contact Entry Event Group Numbers Status",
     "almanac.names": "names",
     "almanac.pages": "Format page",
+    "ephemeris.ephemeris": "Ephemeris",
     "ephemeris.files": "WrongFiles",
     "ephemeris.series": "Series",
+    "ephemeris.sky_text": "SkyText",
+    "ephemeris.stars": "Star",
     "process.path": "NoProgram",
     "process.program": "CertificateRefused EventRefused FileFault FinderError Interrupted OutOfMemory ReadFailed "
     "SpanRefused TimedOut TooManyLeaves WordsRefused WriteFailed",
@@ -139,6 +145,7 @@ __all__ = [
     "Contact",
     "Coordinates",
     "Entry",
+    "Ephemeris",
     "Event",
     "EventRefused",
     "Extreme",
@@ -157,10 +164,12 @@ __all__ = [
     "Scale",
     "Seen",
     "Series",
+    "SkyText",
     "Span",
     "SpanNotHeld",
     "SpanRefused",
     "Spans",
+    "Star",
     "Status",
     "Summary",
     "TimeSet",

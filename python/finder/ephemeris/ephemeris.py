@@ -1,0 +1,140 @@
+"""`Ephemeris`: what a search reads, of whatever source it is made."""
+
+from __future__ import annotations
+
+import dataclasses
+import math
+import os
+from collections.abc import Iterable, Mapping
+from pathlib import Path
+from typing import TYPE_CHECKING, Any, Optional, Union
+
+from ..searches.times import Time, ticks_of_time
+from .cache import Kept
+from .fitting import FitError
+
+if TYPE_CHECKING:
+    from ..sky.place import PlaceLike
+    from .sky_text import SkyText
+
+Source = Union[str, os.PathLike[str], Iterable[Union[str, os.PathLike[str]]]]
+
+
+class Ephemeris:
+    """A text that is searched: JPL's files as they are, or the blocks of a span of any source that `open` reads, motions
+    that `fit` fits, or the sky of a place.
+
+    Every search takes it in place of files, and takes and gives the names of `names`.
+
+    >>> eph = Ephemeris.open("examples/de405-2000.asc", "2000-05-01", "2000-06-01")
+    >>> eph
+    <Ephemeris of 2000-04-14T12:00:00 to 2000-06-17T12:00:00 (TDB): mercury, venus, .., sun, earth, ssb>
+    """
+
+    #: The body from which a search looks if none is named: None is the barycentre of the solar system.
+    origin: Optional[str] = None
+
+    def __init__(self, kept: Kept) -> None:
+        self._kept = kept
+
+    @classmethod
+    def open(
+        cls, source: Source, start: Optional[Time] = None, end: Optional[Time] = None, *, cache: bool = True
+    ) -> Ephemeris:
+        """The ephemeris of a source, clipped to the blocks of a span."""
+        from .open import opened
+
+        return cls(opened(source, seconds_of_time(start), seconds_of_time(end), cache))
+
+    def sky(
+        self,
+        place: Optional[PlaceLike] = None,
+        start: Optional[Time] = None,
+        end: Optional[Time] = None,
+        *,
+        light_time: bool = True,
+        bending: bool = True,
+        aberration: bool = True,
+        axes: str = "equator",
+        delta_t: Any = None,
+        bodies: Optional[Iterable[str]] = None,
+        stars: Optional[Mapping[str, Any]] = None,
+        cache: bool = True,
+    ) -> SkyText:
+        """The sky as it is seen from the Earth's centre or from a place on the Earth."""
+        from .apparent_places import Model
+        from .sky_text import SkyText
+
+        model = Model(light_time, bending, aberration, axes)
+        return SkyText.of(self, place, start, end, model, delta_t=delta_t, bodies=bodies, stars=stars, cache=cache)
+
+    @property
+    def files(self) -> tuple[str, ...]:
+        """The names of the text's files, in the order in which the program reads them."""
+        return self._kept.files
+
+    @property
+    def start(self) -> int:
+        """The start of the first block, in seconds of TDB since J2000."""
+        return int(self._kept.about["start"])
+
+    @property
+    def end(self) -> int:
+        """The end of the last block, in seconds of TDB since J2000."""
+        return int(self._kept.about["end"])
+
+    @property
+    def asked(self) -> tuple[Optional[float], Optional[float]]:
+        """The span that was asked for, in seconds of TDB since J2000: None where it is that of the source."""
+        start, end = self._kept.about["asked"]
+        return start, end
+
+    @property
+    def names(self) -> dict[str, str]:
+        """The names that a search takes, and what the program calls each: columns of the text, `earth` and `ssb`."""
+        return dict(self._kept.about["names"])
+
+    @property
+    def errors(self) -> dict[str, FitError]:
+        """How far the series of each body that was fitted is from its motion; a body whose coefficients were copied is
+        not among them."""
+        return {name: FitError(**error) for name, error in self._kept.about["errors"].items()}
+
+    @property
+    def titles(self) -> tuple[str, ...]:
+        """What the header says of the text: its sources with their SHA-256, models, errors."""
+        return tuple(self._kept.about["titles"])
+
+    @property
+    def sha256(self) -> str:
+        """The SHA-256 of the bytes of `files`, one after the other."""
+        return str(self._kept.about["sha256"])
+
+    @property
+    def text(self) -> str:
+        """The text: the bytes of `files`, one after the other."""
+        return "".join(Path(name).read_text("ascii") for name in self.files)
+
+    def __repr__(self) -> str:
+        from .text import span_text
+
+        names = list(self.names)
+        shown = names if len(names) < 8 else [*names[:2], "..", *names[-3:]]
+        return f"<{type(self).__name__} of {span_text(self.start, self.end)}: {', '.join(shown)}>"
+
+
+def seconds_of_time(time: Optional[Time]) -> Optional[float]:
+    """A time of any usual form in seconds of TDB since J2000, to the millisecond."""
+    if time is None:
+        return None
+    if isinstance(time, float):
+        if not math.isfinite(time):
+            raise ValueError(f"no time: {time!r}")
+        return time
+    return ticks_of_time(time, 1_000, up=False) / 1_000
+
+
+def errors_to_keep(errors: Mapping[str, FitError]) -> dict[str, Any]:
+    """Errors as they are kept beside a text."""
+    return {name: dataclasses.asdict(error) for name, error in errors.items()}
+

@@ -1,0 +1,84 @@
+"""What `Ephemeris.open` does: reads a source of any form, clips it to a span, and keeps its text."""
+
+from __future__ import annotations
+
+import os
+from typing import Any, Optional
+
+from ..reports.calendar import DAY
+from . import ascii_de
+from .cache import Kept, kept, key_of, sha256_of
+from .sources import Form, SourceFile, WrongSource, source_files
+from .text import span_text
+
+# The seconds on both sides of a span whose blocks are kept too: light takes 7 hours from Pluto, and the days of a sky
+# begin where its span does.
+MARGIN = DAY
+MAX_FILES = 64
+MAX_FILE_BYTES = 268_435_456
+
+
+def opened(source: Any, start: Optional[float], end: Optional[float], cache: bool) -> Kept:
+    """The text of a source, clipped to a span in seconds since J2000 (TDB)."""
+    if start is not None and end is not None and not start < end:
+        raise ValueError(f"start= is before end=, and {span_text(start, end)} is no span")
+    files = source_files(source)
+    if files[0].form is Form.ASCII:
+        return _of_ascii(files, start, end, cache)
+    raise WrongSource(f"{files[0].name} is {files[0].form.value}, which is not read yet")
+
+
+def in_source(start: Optional[float], end: Optional[float], first: float, last: float, name: str) -> None:
+    """Refuses a span that the source does not have."""
+    low, high = first if start is None else start, last if end is None else end
+    if low < first or high > last or low >= high:
+        raise WrongSource(
+            f"{name} has {span_text(first, last)}, and {span_text(low, high)} is asked for: name a span within it, or a "
+            "source that has more"
+        )
+
+
+def with_margin(start: Optional[float], end: Optional[float]) -> tuple[Optional[float], Optional[float]]:
+    """A span with what stands around it."""
+    return None if start is None else start - MARGIN, None if end is None else end + MARGIN
+
+
+def source_titles(files: list[SourceFile], start: float, end: float) -> tuple[str, ...]:
+    """The lines of a title that name the files of a source."""
+    lines = [f"{file.last_name}, SHA-256 {file.sha256}" for file in files]
+    return (f"Blocks of {span_text(start, end)} of {files[0].form.value}, written by finder, of", *lines)
+
+
+def _of_ascii(files: list[SourceFile], start: Optional[float], end: Optional[float], cache: bool) -> Kept:
+    whole = ascii_de.read(files)
+    in_source(start, end, whole.start, whole.end, files[0].name if len(files) == 1 else f"{files[0].name} .. {files[-1].name}")
+    part = whole.clipped(*with_margin(start, end)).checked()
+    about: dict[str, Any] = {
+        "name": "ephemeris",
+        "start": part.start,
+        "end": part.end,
+        "asked": [start, end],
+        "names": part.names,
+        "errors": {},
+    }
+    names = _as_they_are(whole, part, files)
+    if names:
+        sha256 = files[0].sha256 if len(names) == 1 else sha256_of(names)
+        return Kept("", names, {**about, "titles": list(whole.titles), "sha256": sha256, "sizes": []})
+    titles = (*whole.titles, *source_titles(files, part.start, part.end))
+
+    def make() -> tuple[Any, dict[str, Any]]:
+        return part.files(titles[len(whole.titles) :]), {**about, "titles": list(titles)}
+
+    sums = sorted((file.sha256, file.last_name) for file in files)
+    return kept(key_of(["ascii", 1, sums, part.start, part.end]), make, cache)
+
+
+def _as_they_are(whole: ascii_de.AsciiSource, part: ascii_de.AsciiSource, files: list[SourceFile]) -> tuple[str, ...]:
+    """The names of the files where the program can read all of them as they are, in their order; else none."""
+    order = list(dict.fromkeys([whole.header_file.name, *(block.file.name for block in whole.blocks)]))
+    plain = all(file.is_plain and len(file.data) <= MAX_FILE_BYTES for file in files)
+    if len(part.blocks) < len(whole.blocks) or whole.headers > 1 or not plain or len(order) > MAX_FILES:
+        return ()
+    return tuple(os.path.abspath(name) for name in order)
+

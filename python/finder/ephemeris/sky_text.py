@@ -1,0 +1,283 @@
+"""`SkyText`: the sky that is seen from the Earth's centre or from a place on the Earth, as a text that is searched."""
+
+from __future__ import annotations
+
+from collections.abc import Iterable, Mapping
+from dataclasses import asdict, dataclass
+from typing import Any, Optional, TypeVar, Union
+
+import numpy as np
+
+from ..reports.calendar import DAY
+from ..searches.times import Time
+from ..seen.apparent import erfa_package
+from ..seen.vectors import Floats
+from ..sky.earth_rotation import EarthRotation, earth_rotation
+from ..sky.place import Place, PlaceLike
+from . import writing
+from .apparent_places import STAR_DISTANCE, ZENITH_DISTANCE, ApparentSky, Model
+from .cache import Kept, kept, key_of
+from .chebyshev import Grid
+from .columns import columns_of, words_of
+from .ephemeris import Ephemeris, errors_to_keep, seconds_of_time
+from .fitting import ARC_SECONDS, Tolerance, compared, fitted, refuse, times_of_check
+from .series import Series
+from .stars import Star, star_of
+from .text import DATE_STEP, EphemerisText, WrongText, span_text
+
+# A granule is a day, in which the Earth turns once: 18 coefficients leave 10^-7 arc seconds of the zenith. The largest
+# error that is allowed, in arc seconds, and the coefficients at most.
+COEFFICIENTS = 20
+TOLERANCE = Tolerance(arcseconds=3e-6)
+# The seconds before the span that the source needs: light takes 7 hours from Pluto at its farthest.
+LIGHT_WAY = 27_000
+# What is seen by default, in this order, as far as the source has it and the text has columns.
+BODIES = ("sun", "moon", "mercury", "venus", "mars", "jupiter", "saturn", "uranus", "neptune", "pluto")
+DIRECTIONS = ("zenith", "nadir")
+MAX_BODIES = 10
+# Within so many degrees of the Sun's centre a body beyond it is compared at so many times a day.
+NEAR_SUN = 2.5
+TIMES_NEAR_SUN = 96
+Made = TypeVar("Made", bound="SkyText")
+
+
+@dataclass(frozen=True)
+class Edge:
+    """A span in which the motion of a body has an edge that its series does not follow: light that passes the Sun within
+    its disc. `start` and `end` in seconds since J2000 (TDB), and the largest error in arc seconds."""
+
+    body: str
+    start: float
+    end: float
+    arcseconds: float
+
+    def __str__(self) -> str:
+        return (
+            f"{self.body} beyond the Sun, {span_text(self.start, self.end)}: up to {self.arcseconds:.2g} arc seconds, as "
+            "the bending of light has an edge at the Sun"
+        )
+
+
+class SkyText(Ephemeris):
+    """The text of an apparent sky. The observer is its origin, so that `observer="earth"`, which is the default, is the
+    place or the Earth's centre. A place's text has `zenith` and `nadir`, directions at 1,000,000 km; stars are at 10^9 km.
+
+    >>> eph = Ephemeris.open("examples/de405-2000.asc")
+    >>> sky = eph.sky("51.4769 N 0 E 46 m", "2000-06-01", "2000-06-08", delta_t=63.8)
+    >>> sky.names["zenith"], sky.place.latitude, round(sky.errors["moon"].largest_arcseconds, 5)
+    ('pluto', 51.4769, 0.0)
+    """
+
+    origin = "earth"
+
+    @classmethod
+    def of(
+        cls: type[Made],
+        source: Ephemeris,
+        place: Optional[PlaceLike] = None,
+        start: Optional[Time] = None,
+        end: Optional[Time] = None,
+        model: Model = Model(),
+        *,
+        delta_t: Union[None, float, EarthRotation] = None,
+        bodies: Optional[Iterable[str]] = None,
+        stars: Optional[Mapping[str, Any]] = None,
+        cache: bool = True,
+    ) -> Made:
+        """The sky over a source, with the words of `Ephemeris.sky`."""
+        spot = None if place is None else Place.of(place)
+        rotation = None if spot is None else earth_rotation(delta_t=delta_t)
+        seen = {name: star_of(star, name) for name, star in (stars or {}).items()}
+        grid = _grid(source, seconds_of_time(start), seconds_of_time(end))
+        making = _Making(source, spot, rotation, model, _bodies(source, bodies, spot, seen), seen, grid)
+        return cls(kept(making.key(), making.make, cache))
+
+    @property
+    def place(self) -> Optional[Place]:
+        """The place, or None for the Earth's centre."""
+        place = self._kept.about["sky"]["place"]
+        return None if place is None else Place(*place)
+
+    @property
+    def model(self) -> Model:
+        """What is counted of the way of light, and the axes."""
+        return Model(**self._kept.about["sky"]["model"])
+
+    @property
+    def axes(self) -> str:
+        """The axes on which places stand: `equator` and `ecliptic` of date, or `j2000`."""
+        return self.model.axes
+
+    @property
+    def edges(self) -> tuple[Edge, ...]:
+        """The spans in which a series is farther from its motion than elsewhere, with the largest error."""
+        return tuple(Edge(**edge) for edge in self._kept.about["sky"]["edges"])
+
+    @property
+    def rotation(self) -> str:
+        """What UT1 stands on, a sentence; empty for the Earth's centre."""
+        return str(self._kept.about["sky"]["rotation"])
+
+
+def _bodies(source: Ephemeris, bodies: Optional[Iterable[str]], place: Optional[Place], stars: Mapping[str, Star]) -> list[str]:
+    """The names of a sky without its stars: those that are asked for, or as many as the text has columns for."""
+    directions = () if place is None else DIRECTIONS
+    if bodies is not None:
+        asked = [bodies] if isinstance(bodies, str) else list(bodies)
+        for body in asked:
+            if body in DIRECTIONS and place is None:
+                raise ValueError(f"{body} is a direction at a place: name one, as sky(finder.Place(52.52, 13.40))")
+            if body not in (*BODIES, *DIRECTIONS) or (body in BODIES and body not in source.names):
+                there = [each for each in BODIES if each in source.names]
+                raise ValueError(f"no body of this sky is {body!r}: there are {', '.join((*there, *directions))}")
+        made = [*asked, *(each for each in directions if each not in asked)]
+    else:
+        there = [body for body in BODIES if body in source.names]
+        made = [*there[: MAX_BODIES - len(directions) - len(stars)], *directions]
+    if len(made) + len(stars) > MAX_BODIES:
+        names = ", ".join((*made, *stars))
+        raise ValueError(f"a sky has at most {MAX_BODIES} bodies, and these are {names}: name fewer by bodies=")
+    return made
+
+
+def _grid(source: Ephemeris, start: Optional[float], end: Optional[float]) -> Grid:
+    """Days from the start to the end of a sky: those that are asked for, or those of which the source has all light."""
+    low, high = source.start + LIGHT_WAY, source.end
+    asked_start, asked_end = source.asked
+    first = start if start is not None else asked_start if asked_start is not None else low
+    last = end if end is not None else asked_end if asked_end is not None else high
+    begin = int(np.floor(first / DATE_STEP)) * DATE_STEP if first != low else -(-low // DATE_STEP) * DATE_STEP
+    count = int(np.floor((last - begin) / DAY)) if last == high else int(np.ceil((last - begin) / DAY))
+    if count < 1:
+        raise WrongText(f"a sky has one day at least, and {span_text(first, last)} has none: name start= before end=")
+    if begin < low or begin + count * DAY > high:
+        raise WrongText(
+            f"the sky of {span_text(first, last)} wants the places of {span_text(begin - LIGHT_WAY, begin + count * DAY)}, as "
+            f"light takes its time, and the source has {span_text(source.start, source.end)}: name a shorter span, or "
+            "open more of the source"
+        )
+    return Grid(begin, float(DAY), count)
+
+
+@dataclass(frozen=True)
+class _Making:
+    """All that a sky is made of."""
+
+    source: Ephemeris
+    place: Optional[Place]
+    rotation: Optional[EarthRotation]
+    model: Model
+    bodies: list[str]
+    stars: Mapping[str, Star]
+    grid: Grid
+
+    def key(self) -> str:
+        """The key of the text: by the source, the place, how the Earth turns, the model, the bodies and the versions."""
+        turns = b"" if self.rotation is None else self.rotation.delta_t(self.grid.starts).tobytes()
+        stars = {name: asdict(star) for name, star in self.stars.items()}
+        facts = [self.source.sha256, self._place(), self._sentence(), asdict(self.model), self.bodies, stars]
+        return key_of(["sky", *versions(), *facts, turns, asdict(self.grid)])
+
+    def _place(self) -> Optional[list[float]]:
+        return None if self.place is None else [self.place.latitude, self.place.longitude, self.place.metres]
+
+    def _sentence(self) -> str:
+        return "" if self.rotation is None else self.rotation.sentence(self.grid.start, self.grid.end)
+
+    def make(self) -> tuple[Iterable[bytes], dict[str, Any]]:
+        """The files of the text, and what is known of it."""
+        series = Series(self.source, self.grid.start - LIGHT_WAY, self.grid.end)
+        sky = ApparentSky(series, self.place, self.rotation, self.model)
+        directions = {name: star.direction for name, star in self.stars.items()}
+
+        def motions(times: Floats) -> dict[str, Floats]:
+            return sky.places(times, self.bodies, directions)
+
+        names = [*self.bodies, *self.stars]
+        fits = fitted(motions, self.grid, COEFFICIENTS, dict.fromkeys(names, TOLERANCE))
+        granules, times = times_of_check(self.grid)
+        every = compared(motions, self.grid, fits, granules, times)
+        edges: list[Edge] = []
+        errors = {}
+        for name in names:
+            near = _near_sun(sky, name, directions, self.grid)
+            smooth = ~np.isin(granules, near)
+            refuse(name, every[name].at(smooth), TOLERANCE, "the source has a jump there, or is none of the solar system")
+            found, inside = self._edges(motions, fits, name, near)
+            edges += found
+            errors[name] = every[name].error(~np.isin(granules, inside))
+        words = words_of(names)
+        text = EphemerisText(
+            self.grid.start,
+            DAY,
+            self.grid.count,
+            columns_of({words[name]: (fit, 1) for name, fit in fits.items()}),
+            titles=self._titles(words, errors, edges),
+        )
+        about = {
+            "name": "sky",
+            "start": text.start,
+            "end": text.end,
+            "asked": [text.start, text.end],
+            "names": {**words, "earth": "earth", "ssb": "ssb"},
+            "errors": errors_to_keep(errors),
+            "titles": list(text.titles),
+            "sky": {
+                "place": self._place(),
+                "model": asdict(self.model),
+                "rotation": self._sentence(),
+                "edges": [asdict(edge) for edge in edges],
+            },
+        }
+        return writing.files(text), about
+
+    def _edges(self, motions: Any, fits: Mapping[str, Floats], name: str, near: Any) -> tuple[list[Edge], list[int]]:
+        """The edges of a body, of the granules in which it is near the Sun; and the granules that they are in."""
+        if not len(near):
+            return [], []
+        granules = np.repeat(near, TIMES_NEAR_SUN)
+        part = np.tile((np.arange(TIMES_NEAR_SUN) + 0.5) / TIMES_NEAR_SUN, len(near))
+        times = self.grid.starts[granules] + self.grid.length * part
+        off = compared(motions, self.grid, {name: fits[name]}, granules, times)[name]
+        angles = (off.off / off.far * ARC_SECONDS).reshape(len(near), -1).max(axis=1)
+        wrong = near[angles > TOLERANCE.arcseconds]
+        made = []
+        for run in np.split(wrong, np.flatnonzero(np.diff(wrong) > 1) + 1) if len(wrong) else []:
+            largest = float(angles[np.isin(near, run)].max())
+            made.append(Edge(name, float(self.grid.starts[run[0]]), float(self.grid.starts[run[-1]] + DAY), largest))
+        return made, wrong.tolist()
+
+    def _titles(self, words: Mapping[str, str], errors: Mapping[str, Any], edges: list[Edge]) -> tuple[str, ...]:
+        where = f"from {self.place}" if self.place else "from the centre of the Earth"
+        columns = ", ".join(f"{name} in the column {word}" for name, word in words.items() if name != word)
+        lines = [
+            f"The sky {where}, {span_text(self.grid.start, self.grid.end)}, written by finder.",
+            f"Counted: {self.model}.",
+            *([self._sentence()] if self.rotation else []),
+            f"Source: SHA-256 {self.source.sha256}, {span_text(self.source.start, self.source.end)}.",
+            *self.source.titles,
+            *([f"Names: {columns}."] if columns else []),
+            f"Zenith and nadir are at {ZENITH_DISTANCE:g} km, stars at {STAR_DISTANCE:g} km.",
+            f"Versions: {', '.join(' '.join(map(str, each)) for each in versions())}.",
+            *(f"Fit of {name}: {error}." for name, error in errors.items()),
+            *(f"Edge: {edge}." for edge in edges),
+        ]
+        return tuple(lines)
+
+
+def versions() -> list[list[str]]:
+    """The names and versions of what a sky is made by."""
+    from .. import __version__
+
+    return [["finder", __version__], ["erfa", str(erfa_package().__version__)]]
+
+
+def _near_sun(sky: ApparentSky, name: str, stars: Mapping[str, Any], grid: Grid) -> Any:
+    """The granules in which a body or a star beyond the Sun comes near it."""
+    if name in ("sun", *DIRECTIONS):
+        return np.empty(0, int)
+    times = grid.start + grid.length / 4 * np.arange(4 * grid.count + 1)
+    angles = sky.elongation(times, name, stars.get(name))
+    least = np.minimum.reduceat(angles[:-1], np.arange(0, 4 * grid.count, 4))
+    return np.flatnonzero(np.minimum(least, angles[4::4]) < NEAR_SUN)
+

@@ -62,7 +62,7 @@ class Sets(unittest.TestCase):
             made = set_of(runs(letters, "s"), runs(letters, "sp"), len(letters) - 1).longer_than(length)
             text = "".join("t" if each else "." for each in true)
             long = {tick for first, last in runs(text, "t") if last - first > length for tick in range(first, last + 1)}
-            sure, possible = ({tick for span in rows for tick in range(span[0], span[1] + 1)} for rows in made._rows)
+            sure, possible = ({tick for span in rows for tick in range(span[0], span[1] + 1)} for rows in made.rows)
             self.assertLessEqual(sure, long)
             self.assertLessEqual(long, possible)
 

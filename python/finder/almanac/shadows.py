@@ -26,14 +26,17 @@ class MoonSizes:
     penumbral: float
 
 
-def moon_sizes(moon: Floats, sun: Floats) -> MoonSizes:
-    """The magnitudes of a lunar eclipse, of one place of the Moon and one of the Sun."""
+def moon_sizes(
+    moon: Floats, sun: Floats, shadow: float = SHADOW, sun_radius: float = SUN, moon_radius: float = MOON
+) -> MoonSizes:
+    """The magnitudes of a lunar eclipse, of one place of the Moon and one of the Sun. The radii are in km; `shadow` is
+    that of the Earth for its shadow."""
     far = float(length(sun)[0])
     behind = -float((moon * sun).sum() / far)
     off = float(length(moon + sun * (behind / far))[0])
-    umbra = SHADOW - behind * (SUN - SHADOW) / far
-    penumbra = SHADOW + behind * (SUN + SHADOW) / far
-    umbral, penumbral = ((radius + MOON - off) / (2 * MOON) for radius in (umbra, penumbra))
+    umbra = shadow - behind * (sun_radius - shadow) / far
+    penumbra = shadow + behind * (sun_radius + shadow) / far
+    umbral, penumbral = ((radius + moon_radius - off) / (2 * moon_radius) for radius in (umbra, penumbra))
     return MoonSizes(umbral, penumbral)
 
 

@@ -15,7 +15,7 @@ from .fitting import FitError
 
 if TYPE_CHECKING:
     from ..sky.place import PlaceLike
-    from .sky_text import SkyText
+    from ..sky.sky import Sky
 
 Source = Union[str, os.PathLike[str], Iterable[Union[str, os.PathLike[str]]]]
 
@@ -60,13 +60,13 @@ class Ephemeris:
         bodies: Optional[Iterable[str]] = None,
         stars: Optional[Mapping[str, Any]] = None,
         cache: bool = True,
-    ) -> SkyText:
+    ) -> Sky:
         """The sky as it is seen from the Earth's centre or from a place on the Earth."""
+        from ..sky.sky import Sky
         from .apparent_places import Model
-        from .sky_text import SkyText
 
         model = Model(light_time, bending, aberration, axes)
-        return SkyText.of(self, place, start, end, model, delta_t=delta_t, bodies=bodies, stars=stars, cache=cache)
+        return Sky.of(self, place, start, end, model, delta_t=delta_t, bodies=bodies, stars=stars, cache=cache)
 
     @property
     def files(self) -> tuple[str, ...]:

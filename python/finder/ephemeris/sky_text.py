@@ -60,7 +60,7 @@ class Edge:
 
 class SkyText(Ephemeris):
     """The text of an apparent sky. The observer is its origin, so that `observer="earth"`, which is the default, is the
-    place or the Earth's centre. A place's text has `zenith` and `nadir`, directions at 1,000,000 km; stars are at 10^9 km.
+    place or the Earth's centre. A place's text has `zenith` and `nadir`, directions at 100,000 km; stars are at 10^9 km.
 
     >>> eph = Ephemeris.open("examples/de405-2000.asc")
     >>> sky = eph.sky("51.4769 N 0 E 46 m", "2000-06-01", "2000-06-08", delta_t=63.8)
@@ -176,7 +176,8 @@ class _Making:
         turns = b"" if self.rotation is None else self.rotation.delta_t(self.grid.starts).tobytes()
         stars = {name: asdict(star) for name, star in self.stars.items()}
         facts = [self.source.sha256, self._place(), self._sentence(), asdict(self.model), self.bodies, stars]
-        return key_of(["sky", *versions(), *facts, turns, asdict(self.grid)])
+        distances = [ZENITH_DISTANCE, STAR_DISTANCE]
+        return key_of(["sky", *versions(), *facts, turns, asdict(self.grid), distances])
 
     def _place(self) -> Optional[list[float]]:
         return None if self.place is None else [self.place.latitude, self.place.longitude, self.place.metres]

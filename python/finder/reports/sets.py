@@ -266,11 +266,12 @@ class TimeSet:
         ticks = [ticks_of_time(time, self.tick, up) for up in (False, True)]
         if not self.start <= ticks[0] <= ticks[1] <= self.end:
             raise ValueError(f"the time {time} is outside of the set's span, {self.span}")
-        sure, possible = ([Spans(self.tick, [each], [each])._within(rows) for each in ticks] for rows in self._rows)
+        sure, possible = ([Spans(self.tick, [each], [each])._within(rows) for each in ticks] for rows in self.rows)
         return True if all(sure) else None if any(possible) else False
 
     @property
-    def _rows(self) -> tuple[Spans, Spans]:
+    def rows(self) -> tuple[Spans, Spans]:
+        """The sure spans and the possible ones."""
         return self.sure, self.possible
 
     def up_to(self, wider: TimeSet) -> TimeSet:

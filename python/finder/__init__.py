@@ -98,6 +98,14 @@ if TYPE_CHECKING:
     from .seen.scales import Clock, Scale
     from .seen.seen import Seen, seen
     from .seen.values import Coordinates, Values, values
+    from .sky.centre import Meeting
+    from .sky.earth_rotation import EarthRotation, earth_rotation
+    from .sky.eclipses import LocalEclipse
+    from .sky.moments import Moment, Moments
+    from .sky.nights import Night, Nights
+    from .sky.occultations import Occultation
+    from .sky.place import Place
+    from .sky.sky import NeverReached, Sky
 
 __version__ = "0.1"
 
@@ -132,6 +140,14 @@ _MODULES = {
     "seen.scales": "Clock Scale",
     "seen.seen": "Seen seen",
     "seen.values": "Coordinates Values values",
+    "sky.centre": "Meeting",
+    "sky.earth_rotation": "EarthRotation earth_rotation",
+    "sky.eclipses": "LocalEclipse",
+    "sky.moments": "Moment Moments",
+    "sky.nights": "Night Nights",
+    "sky.occultations": "Occultation",
+    "sky.place": "Place",
+    "sky.sky": "NeverReached Sky",
 }
 _HOMES = {name: module for module, names in _MODULES.items() for name in names.split()}
 
@@ -144,6 +160,7 @@ __all__ = [
     "Clock",
     "Contact",
     "Coordinates",
+    "EarthRotation",
     "Entry",
     "Ephemeris",
     "Event",
@@ -155,15 +172,25 @@ __all__ = [
     "Group",
     "Interrupted",
     "Interval",
+    "LocalEclipse",
+    "Meeting",
+    "Moment",
+    "Moments",
+    "NeverReached",
+    "Night",
+    "Nights",
     "NoErfa",
     "NoProgram",
     "NotProved",
     "Numbers",
+    "Occultation",
     "OutOfMemory",
+    "Place",
     "ReadFailed",
     "Scale",
     "Seen",
     "Series",
+    "Sky",
     "SkyText",
     "Span",
     "SpanNotHeld",
@@ -193,6 +220,7 @@ __all__ = [
     "coordinate",
     "cosine_of_degrees",
     "distance",
+    "earth_rotation",
     "far",
     "find",
     "greatest",

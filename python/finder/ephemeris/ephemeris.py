@@ -2,7 +2,6 @@
 
 from __future__ import annotations
 
-import dataclasses
 import math
 import os
 from collections.abc import Iterable, Mapping
@@ -16,6 +15,7 @@ from .fitting import FitError
 if TYPE_CHECKING:
     from ..sky.place import PlaceLike
     from ..sky.sky import Sky
+    from .spk_text import Bodies
 
 Source = Union[str, os.PathLike[str], Iterable[Union[str, os.PathLike[str]]]]
 
@@ -39,12 +39,18 @@ class Ephemeris:
 
     @classmethod
     def open(
-        cls, source: Source, start: Optional[Time] = None, end: Optional[Time] = None, *, cache: bool = True
+        cls,
+        source: Source,
+        start: Optional[Time] = None,
+        end: Optional[Time] = None,
+        *,
+        bodies: Bodies = None,
+        cache: bool = True,
     ) -> Ephemeris:
         """The ephemeris of a source, clipped to the blocks of a span."""
         from .open import opened
 
-        return cls(opened(source, seconds_of_time(start), seconds_of_time(end), cache))
+        return cls(opened(source, seconds_of_time(start), seconds_of_time(end), bodies, cache))
 
     def sky(
         self,
@@ -132,9 +138,3 @@ def seconds_of_time(time: Optional[Time]) -> Optional[float]:
             raise ValueError(f"no time: {time!r}")
         return time
     return ticks_of_time(time, 1_000, up=False) / 1_000
-
-
-def errors_to_keep(errors: Mapping[str, FitError]) -> dict[str, Any]:
-    """Errors as they are kept beside a text."""
-    return {name: dataclasses.asdict(error) for name, error in errors.items()}
-

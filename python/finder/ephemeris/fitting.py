@@ -3,7 +3,8 @@
 from __future__ import annotations
 
 from collections.abc import Callable, Mapping
-from dataclasses import dataclass
+from dataclasses import asdict, dataclass
+from typing import Any
 
 import numpy as np
 import numpy.typing as npt
@@ -90,6 +91,11 @@ class Comparison:
         worst = float(self.times[kept][np.argmax(off)])
         most = (float(np.quantile(each, 0.99)) for each in (off, angle))
         return FitError(float(off.max()), next(most), float(angle.max()), next(most), len(off), worst)
+
+
+def errors_to_keep(errors: Mapping[str, FitError]) -> dict[str, Any]:
+    """Errors as they are kept beside a text."""
+    return {name: asdict(error) for name, error in errors.items()}
 
 
 def places_of(motions: Motions, times: Floats) -> dict[str, Floats]:

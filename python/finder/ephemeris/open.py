@@ -3,13 +3,21 @@
 from __future__ import annotations
 
 import os
+from collections.abc import Iterable, Mapping
+from dataclasses import replace
 from typing import Any, Optional
 
 from ..reports.calendar import DAY
-from . import ascii_de
+from . import ascii_de, binary_de, spk_text, writing
 from .cache import Kept, kept, key_of, sha256_of
 from .sources import Form, SourceFile, WrongSource, source_files
-from .text import span_text
+from .fitting import FitError, errors_to_keep
+from .spk_text import Bodies
+from .text import EphemerisText, span_text
+
+Made = tuple[Iterable[bytes], dict[str, Any]]
+# A number that is changed where the same sources give another text.
+VERSION = 1
 
 # The seconds on both sides of a span whose blocks are kept too: light takes 7 hours from Pluto, and the days of a sky
 # begin where its span does.
@@ -18,14 +26,18 @@ MAX_FILES = 64
 MAX_FILE_BYTES = 268_435_456
 
 
-def opened(source: Any, start: Optional[float], end: Optional[float], cache: bool) -> Kept:
+def opened(source: Any, start: Optional[float], end: Optional[float], bodies: Bodies, cache: bool) -> Kept:
     """The text of a source, clipped to a span in seconds since J2000 (TDB)."""
     if start is not None and end is not None and not start < end:
         raise ValueError(f"start= is before end=, and {span_text(start, end)} is no span")
     files = source_files(source)
+    if bodies is not None and files[0].form is not Form.SPK:
+        raise TypeError(f"bodies= are of SPK kernels, and {files[0].name} is {files[0].form.value}, whose bodies are all kept")
     if files[0].form is Form.ASCII:
         return _of_ascii(files, start, end, cache)
-    raise WrongSource(f"{files[0].name} is {files[0].form.value}, which is not read yet")
+    facts = [files[0].form.name, VERSION, [[file.sha256, file.last_name] for file in files], start, end, _shown(bodies)]
+    making = _of_binary if files[0].form is Form.BINARY else _of_kernels
+    return kept(key_of(facts), lambda: making(files, start, end, bodies), cache)
 
 
 def in_source(start: Optional[float], end: Optional[float], first: float, last: float, name: str) -> None:
@@ -49,9 +61,49 @@ def source_titles(files: list[SourceFile], start: float, end: float) -> tuple[st
     return (f"Blocks of {span_text(start, end)} of {files[0].form.value}, written by finder, of", *lines)
 
 
+def _shown(bodies: Bodies) -> Any:
+    """The bodies that are asked for, as a part of a key."""
+    return bodies if bodies is None else dict(bodies) if isinstance(bodies, Mapping) else list(bodies)
+
+
+def _of_binary(files: list[SourceFile], start: Optional[float], end: Optional[float], _: Bodies) -> Made:
+    """The text of binary files, and what is known of it."""
+    text, low, high = binary_de.read(files, *with_margin(start, end))
+    in_source(start, end, low, high, _names(files))
+    text = replace(text, titles=(*text.titles, *source_titles(files, text.start, text.end)))
+    words = [word for word in text.columns if word != "moon" or "emb" in text.columns]
+    earth = ["earth"] if {"emb", "moon"} <= set(words) else []
+    return writing.files(text), _about(text, [start, end], {word: word for word in (*words, *earth, "ssb")}, {})
+
+
+def _of_kernels(files: list[SourceFile], start: Optional[float], end: Optional[float], bodies: Bodies) -> Made:
+    """The text of SPK kernels, and what is known of it."""
+    found = spk_text.read(files, start, end, MARGIN, bodies)
+    text = replace(found.text, titles=(*source_titles(files, found.text.start, found.text.end), *found.text.titles))
+    return writing.files(text), _about(text, [start, end], found.names, found.errors)
+
+
+def _about(text: EphemerisText, asked: list[Optional[float]], names: dict[str, str], errors: dict[str, FitError]) -> dict[str, Any]:
+    """What is known of a text."""
+    return {
+        "name": "ephemeris",
+        "start": text.start,
+        "end": text.end,
+        "asked": asked,
+        "names": names,
+        "errors": errors_to_keep(errors),
+        "titles": list(text.titles),
+    }
+
+
+def _names(files: list[SourceFile]) -> str:
+    """The names of files, for a sentence."""
+    return files[0].name if len(files) == 1 else f"{files[0].name} .. {files[-1].name}"
+
+
 def _of_ascii(files: list[SourceFile], start: Optional[float], end: Optional[float], cache: bool) -> Kept:
     whole = ascii_de.read(files)
-    in_source(start, end, whole.start, whole.end, files[0].name if len(files) == 1 else f"{files[0].name} .. {files[-1].name}")
+    in_source(start, end, whole.start, whole.end, _names(files))
     part = whole.clipped(*with_margin(start, end)).checked()
     about: dict[str, Any] = {
         "name": "ephemeris",
@@ -71,7 +123,7 @@ def _of_ascii(files: list[SourceFile], start: Optional[float], end: Optional[flo
         return part.files(titles[len(whole.titles) :]), {**about, "titles": list(titles)}
 
     sums = sorted((file.sha256, file.last_name) for file in files)
-    return kept(key_of(["ascii", 1, sums, part.start, part.end]), make, cache)
+    return kept(key_of(["ASCII", VERSION, sums, part.start, part.end]), make, cache)
 
 
 def _as_they_are(whole: ascii_de.AsciiSource, part: ascii_de.AsciiSource, files: list[SourceFile]) -> tuple[str, ...]:

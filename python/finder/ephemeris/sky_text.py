@@ -19,8 +19,8 @@ from .apparent_places import STAR_DISTANCE, ZENITH_DISTANCE, ApparentSky, Model
 from .cache import Kept, kept, key_of
 from .chebyshev import Grid
 from .columns import columns_of, words_of
-from .ephemeris import Ephemeris, errors_to_keep, seconds_of_time
-from .fitting import ARC_SECONDS, Tolerance, compared, fitted, refuse, times_of_check
+from .ephemeris import Ephemeris, seconds_of_time
+from .fitting import ARC_SECONDS, Tolerance, compared, errors_to_keep, fitted, refuse, times_of_check
 from .series import Series
 from .stars import Star, star_of
 from .text import DATE_STEP, EphemerisText, WrongText, span_text

@@ -26,6 +26,8 @@ SPK_IDS = (b"DAF/SPK ", b"NAIF/DAF")
 # The three dates of a binary DE file, after three titles of 84 letters and 400 names of six.
 DATES_AT = 3 * 84 + 400 * 6
 LOOKED_AT = DATES_AT + 24
+# The days of a block, by which a date is told from eight bytes in the other order.
+SHORTEST_BLOCK, LONGEST_BLOCK = 1e-5, 64.0
 
 
 class Form(enum.Enum):
@@ -132,7 +134,7 @@ def byte_order(first: bytes) -> str:
     """The byte order of a binary DE file, `<` or `>`: that in which its three dates are dates; else nothing."""
     for order in "<>":
         start, end, days = struct.unpack_from(f"{order}3d", first, DATES_AT)
-        if -1e7 < start < end < 1e7 and 0 < days <= 64:
+        if -1e7 < start < end < 1e7 and SHORTEST_BLOCK < days <= end - start and days <= LONGEST_BLOCK:
             return order
     return ""
 

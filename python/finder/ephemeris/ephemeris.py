@@ -15,6 +15,7 @@ from .fitting import FitError
 if TYPE_CHECKING:
     from ..sky.place import PlaceLike
     from ..sky.sky import Sky
+    from .motions import Motion
     from .spk_text import Bodies
 
 Source = Union[str, os.PathLike[str], Iterable[Union[str, os.PathLike[str]]]]
@@ -30,9 +31,6 @@ class Ephemeris:
     >>> eph
     <Ephemeris of 2000-04-14T12:00:00 to 2000-06-17T12:00:00 (TDB): mercury, venus, .., sun, earth, ssb>
     """
-
-    #: The body from which a search looks if none is named: None is the barycentre of the solar system.
-    origin: Optional[str] = None
 
     def __init__(self, kept: Kept) -> None:
         self._kept = kept
@@ -51,6 +49,25 @@ class Ephemeris:
         from .open import opened
 
         return cls(opened(source, seconds_of_time(start), seconds_of_time(end), bodies, cache))
+
+    @classmethod
+    def fit(
+        cls,
+        functions: Mapping[str, Motion],
+        start: Time,
+        end: Time,
+        *,
+        tolerance: Union[None, float, Mapping[str, float]] = None,
+        cache: bool = True,
+    ) -> Ephemeris:
+        """The ephemeris of motions, each a function of seconds of TDB since J2000: an array of n in, kilometres out, 3 by n,
+        or n numbers, a scalar, which stands on the axis x."""
+        from .fit import fit
+
+        first, last = seconds_of_time(start), seconds_of_time(end)
+        if first is None or last is None:
+            raise ValueError("a fit has a start and an end: name both")
+        return cls(fit(functions, first, last, tolerance, cache))
 
     def sky(
         self,
@@ -78,6 +95,12 @@ class Ephemeris:
     def files(self) -> tuple[str, ...]:
         """The names of the text's files, in the order in which the program reads them."""
         return self._kept.files
+
+    @property
+    def origin(self) -> Optional[str]:
+        """The body from which a search looks if it names no observer: None is the barycentre of the solar system."""
+        origin: Optional[str] = self._kept.about.get("origin")
+        return origin
 
     @property
     def start(self) -> int:

@@ -54,7 +54,8 @@ class Tolerance:
 class FitError:
     """How far the series of a body is from its motion at random times and at the ends of granules: the largest distance
     and the one that 99 in 100 are below, in km and in arc seconds as seen from the origin; at how many times, and the
-    time of the largest in seconds since J2000 (TDB)."""
+    time of the largest in seconds since J2000 (TDB). Of a scalar the distance is in its own unit, and no angle is a
+    number (NaN)."""
 
     largest_km: float
     most_km: float
@@ -64,10 +65,10 @@ class FitError:
     worst: float
 
     def __str__(self) -> str:
-        return (
-            f"largest {self.largest_km:.3g} km, {self.largest_arcseconds:.3g} arc seconds; 99 in 100 below "
-            f"{self.most_km:.3g} km, {self.most_arcseconds:.3g} arc seconds; of {self.times} times"
-        )
+        angles = ["", ""]
+        if np.isfinite(self.largest_arcseconds):
+            angles = [f" km, {angle:.3g} arc seconds" for angle in (self.largest_arcseconds, self.most_arcseconds)]
+        return f"largest {self.largest_km:.3g}{angles[0]}; 99 in 100 below {self.most_km:.3g}{angles[1]}; of {self.times} times"
 
 
 @dataclass(frozen=True)
@@ -83,9 +84,10 @@ class Comparison:
         """What is compared at the times of a mask."""
         return Comparison(self.granules[kept], self.times[kept], self.off[kept], self.far[kept])
 
-    def error(self, kept: Mask) -> FitError:
+    def error(self, kept: Mask, is_scalar: bool = False) -> FitError:
         """The error at the times of a mask."""
-        off, angle = self.off[kept], self.off[kept] / np.maximum(self.far[kept], np.finfo(float).tiny) * ARC_SECONDS
+        far = np.full(int(kept.sum()), np.nan) if is_scalar else np.maximum(self.far[kept], np.finfo(float).tiny)
+        off, angle = self.off[kept], self.off[kept] / far * ARC_SECONDS
         if not len(off):
             return FitError(0.0, 0.0, 0.0, 0.0, 0, float("nan"))
         worst = float(self.times[kept][np.argmax(off)])
@@ -187,20 +189,21 @@ def granule_of(name: str, motions: Motions, start: float, end: float, tolerance:
     """The length of a granule in seconds and its coefficients, by which the series of a motion has the fewest numbers
     among those that are within the tolerance in some places of a span; the last ones first, as they leave most."""
     best: tuple[float, float, int] | None = None
-    worst = np.inf
+    least = np.inf
     for size in LENGTHS:
         if size > max(end - start, 1.0) and size > LENGTHS[-1]:
             continue
         count, tail = _coefficients_needed(name, motions, start, end, size, tolerance)
-        worst = min(worst, tail)
+        least = min(least, tail)
         if count is not None and (best is None or count / size < best[0]):
             best = count / size, size, count
         elif best is not None and size < best[1] / 4:
             break
     if best is None:
         raise WrongText(
-            f"{name} in {span_text(start, end)} is no smooth motion: series of {TRIED} coefficients over 1 second leave "
-            f"{worst:.3g} km, and {tolerance} are allowed; name a span without its jumps, or tolerance="
+            f"{name} in {span_text(start, end)} is no smooth motion to {tolerance}: by series of {TRIED} coefficients, of whatever "
+            f"length, it scatters by {least:.3g} km and more; name a span without jumps, or a tolerance= above its scatter, as that "
+            "of doubles of time"
         )
     return best[1], best[2]
 

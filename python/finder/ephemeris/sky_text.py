@@ -68,8 +68,6 @@ class SkyText(Ephemeris):
     ('pluto', 51.4769, 0.0)
     """
 
-    origin = "earth"
-
     @classmethod
     def of(
         cls: type[Made],
@@ -223,6 +221,7 @@ class _Making:
             "names": {**words, "earth": "earth", "ssb": "ssb"},
             "errors": errors_to_keep(errors),
             "titles": list(text.titles),
+            "origin": "earth",
             "sky": {
                 "place": self._place(),
                 "model": asdict(self.model),

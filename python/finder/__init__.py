@@ -47,7 +47,7 @@ if TYPE_CHECKING:
     from .almanac.names import names
     from .almanac.pages import Format, page
     from .ephemeris.ephemeris import Ephemeris
-    from .ephemeris.files import WrongFiles
+    from .ephemeris.order import WrongFiles
     from .ephemeris.series import Series
     from .ephemeris.sky_text import SkyText
     from .ephemeris.stars import Star
@@ -116,7 +116,7 @@ _MODULES = {
     "almanac.names": "names",
     "almanac.pages": "Format page",
     "ephemeris.ephemeris": "Ephemeris",
-    "ephemeris.files": "WrongFiles",
+    "ephemeris.order": "WrongFiles",
     "ephemeris.series": "Series",
     "ephemeris.sky_text": "SkyText",
     "ephemeris.stars": "Star",

@@ -204,15 +204,16 @@ class Refused(InFolder):
             finder.almanac(YEAR, "2000-06-01", "2001-06-01", program=self.watched())
         self.assertEqual(self.asked(), ["check"])
 
-    def test_files_without_a_header_and_in_the_wrong_order(self):
+    def test_files_without_a_header_and_blocks_in_the_wrong_order(self):
         header, files = split_year(self.folder)
         with self.assertRaises(finder.FileFault) as caught:
             finder.almanac(files, "2000-01-01", "2000-03-01", program=self.watched())
         self.assertEqual(caught.exception.file, str(files[0]))
-        names = [header, files[1], files[0], files[2]]
-        with self.assertRaisesRegex(ValueError, "ascp0.405 begins before .*ascp1.405"):
-            finder.almanac(names, "2000-05-01", "2000-06-01", program=self.watched())
-        self.assertEqual(self.asked(), ["check", "check"])
+        turned = self.folder / "turned.405"
+        turned.write_bytes(files[1].read_bytes() + files[0].read_bytes())
+        with self.assertRaisesRegex(finder.WrongFiles, "turned.405 has blocks that are not in order of time"):
+            finder.almanac([header, turned], "2000-05-01", "2000-06-01", program=self.watched())
+        self.assertEqual(self.asked(), ["check"])
 
     def test_no_erfa(self):
         with mock.patch.dict(sys.modules, erfa=None), self.assertRaisesRegex(finder.NoErfa, "pyerfa"):

@@ -71,11 +71,13 @@ class Words(InFolder):
     @unittest.skipUnless(has("erfa"), "no erfa")
     def test_refusals(self):
         header, files = split_year(self.folder)
+        turned = self.folder / "turned.405"
+        turned.write_bytes(files[1].read_bytes() + files[0].read_bytes())
         rows = {
             ("2001", str(YEAR)): "finder: the files hold 1999-12-24T00:00:00 to 2001-01-11T00:00:00 (TDB), and not ",
             ("2000", "no-file"): "finder: read fault no-file\nfinder: likely: (1) no file has this name",
             ("2000", str(files[0])): f"finder: file {files[0]} line 1: 10 FirstLine\nfinder: likely: (1) the first ",
-            ("2000", str(header), str(files[1]), str(files[0])): f"finder: {files[0]} begins before {files[1]}, which ",
+            ("2000", str(header), str(turned)): f"finder: {turned} has blocks that are not in order of time: the days ",
             ("2000", str(YEAR), "--program", "/no/finder"): "finder: ",
         }
         for words, said in rows.items():

@@ -72,7 +72,7 @@ class Files(InFolder):
                 self.assertEqual(self.over(search, *words, **options).text, search(YEAR, *words, **plain).text)
 
     def test_files_that_do_not_follow_one_another(self):
-        for files in ([self.files[0], self.files[2]], [self.files[1], self.files[0]], [self.files[0]] * 2, []):
+        for files in ([self.files[0], self.files[2]], [self.files[0]] * 2, []):
             with self.assertRaises(finder.WrongParts):
                 finder.over_files(finder.apsides, files, "moon", header=self.header, observer="earth")
         bare, files = split_year(self.folder, ((0, 4), (4, 12)))

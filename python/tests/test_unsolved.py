@@ -170,12 +170,14 @@ class Refusals(InFolder):
         other.write_text(files[1].read_text().replace("D-01", "D-02"))
         fewer = self.folder / "fewer.asc"
         fewer.write_text(files[1].read_text().replace("  1018", "   728"))
+        turned = self.folder / "turned.405"
+        turned.write_bytes(files[1].read_bytes() + files[0].read_bytes())
         named = self.folder / "ascp2000.430"
         named.write_bytes(files[1].read_bytes())
         for wrong, said in (
             ([*files], f"{files[0]} does not begin with a header"),
             ([header], f"{header} has a header and no block"),
-            ([header, files[1], files[0]], f"{files[0]} begins before {files[1]}"),
+            ([header, turned], f"{turned} has blocks that are not in order of time"),
             ([header, files[0], files[2]], f"{files[2]} does not go on where {files[0]} ends"),
             ([header, files[0], other], f"{files[0]} and {other} have other numbers of the same days"),
             ([header, files[0], fewer], f"{fewer} has blocks of 728 numbers, and the header says 1018"),

@@ -14,8 +14,8 @@ from typing import Optional, Union
 import numpy as np
 
 from .. import spans
-from ..ephemeris.files import WrongFiles
 from ..ephemeris.names import Files, file_names
+from ..ephemeris.order import WrongFiles
 from ..ephemeris.series import Series
 from ..process.program import Program, Runs, runs_of
 from ..public import public

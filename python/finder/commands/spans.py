@@ -39,6 +39,7 @@ from collections.abc import Iterable, Sequence
 from pathlib import Path
 from typing import Optional
 
+from ..ephemeris.order import WrongFiles, refuse_lost
 from ..process.path import NoProgram, find_program
 from ..reports.calendar import WrongReport, ticks_of, time_text
 from ..reports.joining import WrongParts, join_parts
@@ -73,7 +74,8 @@ def plan_time(milliseconds: int) -> str:
 
 
 def check(names: Sequence[str]) -> Summary:
-    """The summary of files, by the command, whose refusal is ours."""
+    """The summary of files, by the command, whose refusal is ours; files in an order that loses blocks are refused."""
+    refuse_lost(names)
     done = subprocess.run([find_program(), "check", "--", *names], capture_output=True, check=False)
     if done.returncode:
         raise WrongParts(os.fsdecode(done.stderr).strip())
@@ -184,7 +186,7 @@ def main() -> int:
     signal.signal(signal.SIGINT, signal.SIG_DFL)
     try:
         write(os.fsencode(said(parser().parse_args())))
-    except (WrongReport, WrongParts, NoProgram, UnicodeDecodeError) as error:
+    except (WrongReport, WrongParts, WrongFiles, NoProgram, UnicodeDecodeError) as error:
         print(f"spans: {error}", file=sys.stderr)
         return 1
     except OSError as error:

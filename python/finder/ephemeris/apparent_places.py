@@ -19,7 +19,7 @@ from ..seen.curves import LIGHT
 from ..seen.vectors import Floats, floats, length
 from ..sky.earth_rotation import EarthRotation
 from ..sky.place import Place
-from .files import J2000_DATE
+from .order import J2000_DATE
 from .series import Series
 
 AU = 149_597_870.7

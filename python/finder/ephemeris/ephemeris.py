@@ -8,6 +8,7 @@ from collections.abc import Iterable, Mapping
 from pathlib import Path
 from typing import TYPE_CHECKING, Any, Optional, Union
 
+from ..public import public
 from ..searches.times import Time, ticks_of_time
 from .cache import Kept
 from .fitting import FitError
@@ -21,6 +22,7 @@ if TYPE_CHECKING:
 Source = Union[str, os.PathLike[str], Iterable[Union[str, os.PathLike[str]]]]
 
 
+@public
 class Ephemeris:
     """A text that is searched: JPL's files as they are, or the blocks of a span of any source that `open` reads, motions
     that `fit` fits, or the sky of a place.

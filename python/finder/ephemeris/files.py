@@ -10,11 +10,10 @@ from pathlib import Path
 import numpy as np
 
 from .. import spans
-from ..public import public
 from ..seen.vectors import Floats, floats
 from .names import Files, some_names
+from .order import J2000_DATE, WrongFiles
 
-J2000_DATE = 2_451_545.0
 SIZE = re.compile(rb"^[ \t]*KSIZE=[ \t]*[0-9]+[ \t]+NCOEFF=[ \t]*([0-9]+)[ \t]*\r?\n")
 HEAD_END = re.compile(rb"^[ \t]*GROUP[ \t]+1070[ \t]*\r?\n", re.MULTILINE)
 BLOCK = re.compile(rb"^[ \t]*[0-9]+[ \t]+([0-9]+)[ \t]*\r?\n", re.MULTILINE)
@@ -23,11 +22,6 @@ E_FOR_D = bytes.maketrans(b"Dd", b"EE")
 DATES = 120
 # The series of a file that has JPL's name.
 JPL_NAME = re.compile(r"(?:header|asc[pm][0-9]+)\.([0-9]+t?)(?:_[0-9]+)?")
-
-
-@public
-class WrongFiles(ValueError):
-    """Files that are not one series in order of time, with the header first, or that do not reach into a span."""
 
 
 @dataclass(frozen=True)

@@ -2,9 +2,12 @@
 
 from __future__ import annotations
 
+import glob
 import os
 from collections.abc import Iterable, Sequence
 from typing import Protocol, Union, runtime_checkable
+
+from .order import WrongFiles, content_of, in_order
 
 
 @runtime_checkable
@@ -20,22 +23,45 @@ Files = Union[str, os.PathLike[str], HasFiles, Iterable[Union[str, os.PathLike[s
 
 
 def file_names(files: Files) -> list[str]:
-    """The names of one file, of several, or of what has `files`."""
+    """The names of one file, of several, or of what has `files`, in the order of their blocks: `WrongFiles` where no
+    order keeps every block. A folder stands for the texts of DE series in it, and `*` and `?` for what they match."""
     if isinstance(files, (str, os.PathLike)):
-        return [_file_name(files)]
+        return in_order(_named(files))
     if isinstance(files, HasFiles):
         return [_file_name(file) for file in files.files]
     if files is None or hasattr(files, "read") or isinstance(files, bytes) or not isinstance(files, Iterable):
-        raise TypeError(f"files are a name, a path, or several of them in order of time, and not {_shown(files)}")
-    return [_file_name(file) for file in files]
+        raise TypeError(f"files are a name, a path, or several of them, and not {_shown(files)}")
+    return in_order([name for file in files for name in _named(file)])
 
 
 def some_names(files: Files) -> list[str]:
     """The names of files, of which there is one at least."""
     names = file_names(files)
     if not names:
-        raise ValueError("no file is named: a name, a path, or several of them in order of time are wanted")
+        raise ValueError("no file is named: a name, a path, or several of them are wanted")
     return names
+
+
+def _named(file: Union[str, os.PathLike[str]]) -> list[str]:
+    """The files that a name stands for: a folder, a pattern of names, or itself."""
+    name = _file_name(file)
+    if os.path.isdir(name):
+        return _texts_of(name)
+    if not os.path.exists(name) and glob.has_magic(name):
+        return sorted(glob.glob(name)) or [name]
+    return [name]
+
+
+def _texts_of(folder: str) -> list[str]:
+    """The texts of the one DE series that a folder has, in files that are not hidden."""
+    names = sorted(entry.path for entry in os.scandir(folder) if entry.is_file() and not entry.name.startswith("."))
+    found = {name: content for name in names if (content := content_of(name))}
+    heads = [name for name, content in found.items() if content.has_header]
+    if not found:
+        raise WrongFiles(f"the folder {folder} has no text of a DE series, as header.405 and ascp2000.405")
+    if len(heads) > 1:
+        raise WrongFiles(f"the folder {folder} has {len(heads)} headers, {heads[0]} and others: name files of one series")
+    return list(found)
 
 
 def _file_name(file: Union[str, os.PathLike[str]]) -> str:

@@ -8,6 +8,7 @@ from typing import Any, Optional, TypeVar, Union
 
 import numpy as np
 
+from ..public import public
 from ..reports.calendar import DAY
 from ..searches.times import Time
 from ..seen.apparent import erfa_package
@@ -58,6 +59,7 @@ class Edge:
         )
 
 
+@public
 class SkyText(Ephemeris):
     """The text of an apparent sky. The observer is its origin, so that `observer="earth"`, which is the default, is the
     place or the Earth's centre. A place's text has `zenith` and `nadir`, directions at 100,000 km; stars are at 10^9 km.

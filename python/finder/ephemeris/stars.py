@@ -7,16 +7,18 @@ from typing import Any
 
 import numpy as np
 
+from ..public import public
 from ..reports.calendar import DAY
 from ..seen.apparent import erfa_package
 from ..seen.vectors import Floats, floats
-from .files import J2000_DATE
+from .order import J2000_DATE
 
 AU = 149_597_870.7
 JULIAN_YEAR = 365.25 * DAY
 MILLIARCSECONDS = 3_600_000.0
 
 
+@public
 @dataclass(frozen=True)
 class Star:
     """A star of a catalogue on the axes of the ICRS: `ra` and `dec` in degrees at `epoch` (a Julian year of TDB), proper

@@ -8,7 +8,7 @@ from typing import Any
 import numpy as np
 
 from .. import spans
-from ..ephemeris.files import J2000_DATE
+from ..ephemeris.order import J2000_DATE
 from ..ephemeris.series import Series
 from ..public import public
 from ..searches.words import one_of

@@ -12,7 +12,7 @@ from enum import Enum
 from typing import Union
 
 from .. import spans
-from ..ephemeris.files import J2000_DATE
+from ..ephemeris.order import J2000_DATE
 from ..public import public
 from .apparent import erfa_package
 

@@ -12,8 +12,8 @@ import numpy as np
 import numpy.typing as npt
 
 from .. import spans
-from ..ephemeris.files import J2000_DATE
 from ..ephemeris.names import Files
+from ..ephemeris.order import J2000_DATE
 from ..ephemeris.series import Series
 from ..public import public
 from ..reports.windows import Window, Windows

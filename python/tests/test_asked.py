@@ -155,14 +155,17 @@ class Hints(InFolder):
 
 class Surface(InFolder):
     def test_hints_of_types(self):
-        """`typing.get_type_hints` answers for each function and method of the package."""
-        for name in finder.__all__:
-            part = getattr(finder, name)
+        """`typing.get_type_hints` answers for each function and method of the package. Where modules import one another
+        for types alone, a name is that of the module that has it."""
+        parts = [getattr(finder, name) for name in finder.__all__]
+        loaded = [module for name, module in sys.modules.items() if name.startswith("finder.")]
+        names = {name: value for module in loaded for name, value in vars(module).items() if name[0].isupper()}
+        for part in parts:
             members = vars(part).values() if inspect.isclass(part) else [part]
             for member in itertools.chain([part], members):
                 plain = getattr(member, "fget", None) or getattr(member, "__func__", member)
                 if inspect.isfunction(plain) or inspect.isclass(plain):
-                    typing.get_type_hints(plain)
+                    typing.get_type_hints(plain, localns=names)
         self.assertIn("target", typing.get_type_hints(finder.conjunctions))
 
     def test_version_and_names(self):

@@ -10,7 +10,7 @@ import numpy as np
 
 from ..reports.calendar import DAY
 from ..seen.vectors import Floats
-from .files import J2000_DATE
+from .order import J2000_DATE
 from .sources import DATES_AT, SourceFile, WrongSource, byte_order
 from .text import AXES, COLUMNS, Column, EphemerisText, span_text
 

@@ -10,11 +10,11 @@ from typing import TYPE_CHECKING, Any, Optional, Union
 
 from ..public import public
 from ..searches.times import Time, ticks_of_time
+from ..sky.place import PlaceLike
 from .cache import Kept
 from .fitting import FitError
 
 if TYPE_CHECKING:
-    from ..sky.place import PlaceLike
     from ..sky.sky import Sky
     from .motions import Motion
     from .spk_text import Bodies

@@ -10,8 +10,8 @@ from typing import Any, Optional
 from ..reports.calendar import DAY
 from . import ascii_de, binary_de, spk_text, writing
 from .cache import Kept, kept, key_of, sha256_of
-from .sources import Form, SourceFile, WrongSource, source_files
 from .fitting import FitError, errors_to_keep
+from .sources import Form, SourceFile, WrongSource, source_files
 from .spk_text import Bodies
 from .text import EphemerisText, span_text
 

@@ -12,7 +12,7 @@ import numpy as np
 
 from ..reports.calendar import DAY
 from ..seen.vectors import Floats, floats
-from .files import J2000_DATE
+from .order import J2000_DATE
 from .series import OBLIQUITY
 from .sources import SourceFile, WrongSource
 from .text import span_text

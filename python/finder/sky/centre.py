@@ -8,6 +8,7 @@ from itertools import combinations
 
 import numpy as np
 
+from ..public import public
 from ..seen.vectors import Floats, angle, latitude
 from .bodies import short_title
 from .moments import Moment
@@ -46,6 +47,7 @@ def _always(name: str) -> Naming:
     return lambda turn: name
 
 
+@public
 @dataclass(frozen=True)
 class Meeting(Moment):
     """Two bodies at one right ascension of date: `body` and the `second` one, `separation` degrees apart, and the second

@@ -17,6 +17,7 @@ from typing import Any, Optional, Union
 
 import numpy as np
 
+from ..public import public
 from ..seen.vectors import Floats
 from .packages import astropy_iers, erfa_package
 
@@ -77,6 +78,7 @@ def delta_t_of_history(year: float) -> float:
     return made
 
 
+@public
 @dataclass(frozen=True)
 class EarthRotation:
     """Delta T at any time, and what it stands on.
@@ -243,6 +245,7 @@ def _shipped(iers: Any) -> str:
     return finals if os.path.isabs(finals) and os.path.exists(finals) else str(iers.IERS_B_FILE)
 
 
+@public
 def earth_rotation(
     table: Union[None, str, os.PathLike[str]] = None, delta_t: Union[None, float, EarthRotation] = None
 ) -> EarthRotation:

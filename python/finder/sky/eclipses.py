@@ -10,6 +10,7 @@ from typing import TYPE_CHECKING, Optional
 import numpy as np
 
 from ..almanac.shadows import SHADOW, moon_sizes
+from ..public import public
 from .bodies import INNER, RADII, short_title
 from .discs import Cover, Pair, Passage, cover_at, passages
 from .moments import Moment, Moments, moments_of
@@ -27,6 +28,7 @@ class Sort(Enum):
     TRANSIT = "transit"
 
 
+@public
 @dataclass(frozen=True)
 class LocalEclipse:
     """An eclipse, or a transit, as a place sees it.

@@ -11,6 +11,7 @@ import numpy as np
 import numpy.typing as npt
 
 from .. import spans
+from ..public import public
 from ..reports.windows import Window, Windows
 from ..searches.times import J2000, J2000_DAYS
 from ..seen.scales import Clock, Scale
@@ -23,6 +24,7 @@ ClockLike = Union[Clock, Scale, datetime.tzinfo, str]
 COMPASS = ("N", "NNE", "NE", "ENE", "E", "ESE", "SE", "SSE", "S", "SSW", "SW", "WSW", "W", "WNW", "NW", "NNW")
 
 
+@public
 @dataclass(frozen=True)
 class Moment:
     """A moment: its `name`, as `sunrise`, and the `body` that it is of.
@@ -75,6 +77,7 @@ class Moment:
         return Clock.of(clock).at(self.seconds)
 
 
+@public
 class Moments(Sequence[Moment]):
     """Moments in order of time, and the sentence `said` if there is something to say of them, as that the Sun does not
     set for some weeks.

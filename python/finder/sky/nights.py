@@ -10,6 +10,7 @@ from typing import Any
 
 import numpy as np
 
+from ..public import public
 from ..reports.sets import Spans, TimeSet
 from ..seen.scales import Clock
 from .moments import ClockLike
@@ -17,6 +18,7 @@ from .moments import ClockLike
 MONTH = re.compile(r"(?P<year>-?[0-9]{1,5})-(?P<month>[0-9]{2})")
 
 
+@public
 @dataclass(frozen=True)
 class Night:
     """A night, from the local mean noon of `date` to the next one, and the spans of a set in it: the `sure` ones, in
@@ -32,6 +34,7 @@ class Night:
         return self.sure.total()
 
 
+@public
 class Nights(Sequence[Night]):
     """The nights of a span in order, with times by a clock."""
 

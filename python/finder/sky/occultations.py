@@ -7,6 +7,7 @@ from dataclasses import dataclass, replace
 
 import numpy as np
 
+from ..public import public
 from .bodies import DIRECTIONS, short_title
 from .discs import Pair, elongation, passages
 from .moments import Moment, Moments
@@ -17,6 +18,7 @@ DISC = (("disappearance begins", "reappearance ends"), ("disappearance ends", "r
 STAR = ("disappears", "reappears")
 
 
+@public
 @dataclass(frozen=True)
 class Occultation:
     """The Moon covers a body, as a place sees it. `contacts` are its moments in order; each has the altitude of the body

@@ -8,6 +8,8 @@ from collections.abc import Iterable, Mapping
 from dataclasses import dataclass
 from typing import Any, Optional, Union
 
+from ..public import public
+
 # The heights above the ellipsoid at which an observer may stand, in metres: the shore of the Dead Sea lies at -440,
 # and air ends at about 100 km.
 LOWEST, HIGHEST = -500.0, 100_000.0
@@ -22,6 +24,7 @@ HEIGHT = re.compile(r"\s*(?P<height>[+\-−]?[0-9]+(?:\.[0-9]*)?)\s*(?P<unit>m|k
 EXAMPLE = "write it as 52.52 N 13.40 E, or as 52.52,13.40 with north and east positive"
 
 
+@public
 @dataclass(frozen=True)
 class Place:
     """A place on the Earth, by `latitude` and `longitude` in degrees, north and east positive, and `metres` above the

@@ -16,6 +16,7 @@ from ..ephemeris.ephemeris import Ephemeris
 from ..ephemeris.series import Series
 from ..ephemeris.sky_text import SkyText
 from ..process.program import Program, Runs, runs_of
+from ..public import public
 from ..reports.sets import TimeSet
 from ..searches.numbers import cosine_of_degrees
 from ..searches.times import Time, ticks_of_time
@@ -36,10 +37,12 @@ from .searching import SECOND, Searches, Span
 Made = TypeVar("Made", bound="Sky")
 
 
+@public
 class NeverReached(UserWarning):
     """A body does not reach an altitude: the set of times is empty, and that is proved."""
 
 
+@public
 class Sky(SkyText):
     """The sky that is seen from a place on the Earth, or from its centre, and the questions that are put to it.
 

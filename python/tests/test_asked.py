@@ -1,10 +1,12 @@
 """What is asked wrongly is refused before the command runs, with what to write instead; refusals of the command have
 hints of their likely causes."""
 
+import importlib
 import inspect
 import itertools
 import os
 import pickle
+import pkgutil
 import subprocess
 import sys
 import typing
@@ -158,7 +160,8 @@ class Surface(InFolder):
         """`typing.get_type_hints` answers for each function and method of the package. Where modules import one another
         for types alone, a name is that of the module that has it."""
         parts = [getattr(finder, name) for name in finder.__all__]
-        loaded = [module for name, module in sys.modules.items() if name.startswith("finder.")]
+        found = pkgutil.walk_packages(finder.__path__, "finder.")
+        loaded = [importlib.import_module(each.name) for each in found if each.name != "finder.__main__"]
         names = {name: value for module in loaded for name, value in vars(module).items() if name[0].isupper()}
         for part in parts:
             members = vars(part).values() if inspect.isclass(part) else [part]

@@ -11,8 +11,8 @@ import numpy as np
 from ..reports.calendar import DAY
 from ..seen.apparent import erfa_package, frames_of_date
 from ..seen.vectors import Floats, floats
-from .files import J2000_DATE
 from .fitting import Tolerance
+from .order import J2000_DATE
 from .stars import Star, star_of
 from .text import WrongText, span_text
 

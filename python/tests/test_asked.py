@@ -1,6 +1,7 @@
 """What is asked wrongly is refused before the command runs, with what to write instead; refusals of the command have
 hints of their likely causes."""
 
+import builtins
 import importlib
 import inspect
 import itertools
@@ -168,7 +169,7 @@ class Surface(InFolder):
             for member in itertools.chain([part], members):
                 plain = getattr(member, "fget", None) or getattr(member, "__func__", member)
                 if inspect.isfunction(plain) or inspect.isclass(plain):
-                    typing.get_type_hints(plain, localns=names)
+                    typing.get_type_hints(plain, localns={**vars(builtins), **names})
         self.assertIn("target", typing.get_type_hints(finder.conjunctions))
 
     def test_version_and_names(self):

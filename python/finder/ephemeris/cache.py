@@ -21,6 +21,8 @@ from dataclasses import dataclass
 from pathlib import Path
 from typing import Any, Optional
 
+from .sums import sha256_of
+
 # What is in the folder of a text besides its files; it is written last.
 ABOUT = "about.json"
 # A text that is being made, and the locks, of which each is of the keys with the same two first letters.
@@ -30,8 +32,9 @@ LOCKS = "locks"
 STALE = 3_600.0
 # The errors of a system that knows no locks: a text is then perhaps made twice, and kept once.
 NO_LOCKS = (errno.ENOLCK, errno.ENOSYS, errno.EOPNOTSUPP, errno.EINVAL)
+# The rights of a file that a user wants to read, and others may.
+READABLE = 0o644
 FULL = (errno.ENOSPC, errno.EDQUOT, errno.EFBIG)
-A_READ = 1 << 20
 
 
 @dataclass(frozen=True)
@@ -70,16 +73,6 @@ def key_of(parts: Iterable[Any]) -> str:
     for part in parts:
         piece = part if isinstance(part, bytes) else json.dumps(part, sort_keys=True).encode()
         made.update(f"{len(piece)}:".encode() + piece)
-    return made.hexdigest()
-
-
-def sha256_of(names: Iterable[str]) -> str:
-    """The SHA-256 of the bytes of files, one after the other."""
-    made = hashlib.sha256()
-    for name in names:
-        with open(name, "rb") as file:
-            for piece in iter(lambda: file.read(A_READ), b""):
-                made.update(piece)
     return made.hexdigest()
 
 
@@ -154,6 +147,28 @@ def _write(path: Path, data: bytes) -> None:
         file.write(data)
         file.flush()
         os.fsync(file.fileno())
+
+
+def write_whole(path: Path, source: str) -> str:
+    """Writes a copy of a file beside its place and then gives it its name, which is returned. `FileExistsError` where a
+    file of this name has other bytes."""
+    if path.exists():
+        if sha256_of([str(path)]) != sha256_of([source]):
+            raise FileExistsError(errno.EEXIST, "a file with other bytes is there: name another folder", str(path))
+        return str(path)
+    with tempfile.NamedTemporaryFile(prefix=UNDONE, dir=path.parent, delete=False) as work:
+        try:
+            with open(source, "rb") as file:
+                shutil.copyfileobj(file, work)
+            work.flush()
+            os.fsync(work.fileno())
+            os.chmod(work.name, READABLE)
+            os.replace(work.name, path)
+        except BaseException:
+            with contextlib.suppress(FileNotFoundError):
+                os.unlink(work.name)
+            raise
+    return str(path)
 
 
 def _found(folder: Path) -> Optional[Kept]:

@@ -105,6 +105,11 @@ class Ephemeris:
         return origin
 
     @property
+    def frames(self) -> tuple[str, ...]:
+        """The frames in which a search may ask for longitudes: of a text on axes of date only its own, `eq`."""
+        return tuple(self._kept.about.get("frames", ("eq", "ecl")))
+
+    @property
     def start(self) -> int:
         """The start of the first block, in seconds of TDB since J2000."""
         return int(self._kept.about["start"])
@@ -145,6 +150,24 @@ class Ephemeris:
     def text(self) -> str:
         """The text: the bytes of `files`, one after the other."""
         return "".join(Path(name).read_text("ascii") for name in self.files)
+
+    def write(self, folder: Union[str, os.PathLike[str]]) -> tuple[str, ...]:
+        """Writes the text to a folder, which is made if it is missing, for the command line: the names of its files, in
+        the order in which `finder find` takes them.
+
+        A file that has other bytes is not written over: `FileExistsError`. Each is written whole, or not at all.
+
+        >>> import tempfile
+        >>> with tempfile.TemporaryDirectory() as folder:
+        ...     names = Ephemeris.open("examples/de405-2000.asc", "2000-05-01", "2000-06-01").write(folder)
+        >>> [os.path.basename(name) for name in names]
+        ['ephemeris.asc']
+        """
+        from .cache import write_whole
+
+        path = Path(folder)
+        path.mkdir(parents=True, exist_ok=True)
+        return tuple(write_whole(path / os.path.basename(name), name) for name in self.files)
 
     def __repr__(self) -> str:
         from .text import span_text

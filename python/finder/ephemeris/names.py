@@ -2,12 +2,24 @@
 
 from __future__ import annotations
 
+import contextlib
 import glob
 import os
 from collections.abc import Iterable, Sequence
 from typing import Protocol, Union, runtime_checkable
 
 from .order import WrongFiles, content_of, in_order
+
+# How files begin that the program does not read, and what they are.
+OTHER_FORMS = {
+    b"\x1f\x8b": "is compressed by gzip",
+    b"BZh": "is compressed by bzip2",
+    b"\xfd7zXZ\x00": "is compressed by xz",
+    b"DAF/SPK ": "is an SPK kernel",
+    b"NAIF/DAF": "is an SPK kernel",
+    b"JPL Planetary": "is a binary file of DE",
+}
+LONGEST_BEGIN = max(map(len, OTHER_FORMS))
 
 
 @runtime_checkable
@@ -47,9 +59,21 @@ def _named(file: Union[str, os.PathLike[str]]) -> list[str]:
     name = _file_name(file)
     if os.path.isdir(name):
         return _texts_of(name)
-    if not os.path.exists(name) and glob.has_magic(name):
-        return sorted(glob.glob(name)) or [name]
-    return [name]
+    found = sorted(glob.glob(name)) or [name] if not os.path.exists(name) and glob.has_magic(name) else [name]
+    for each in found:
+        _refuse_other_forms(each)
+    return found
+
+
+def _refuse_other_forms(name: str) -> None:
+    """Refuses a file that `Ephemeris.open` reads and the program does not: compressed, or of another form."""
+    if not os.path.isfile(name):
+        return
+    with contextlib.suppress(OSError), open(name, "rb") as file:
+        first = file.read(LONGEST_BEGIN)
+        form = next((form for begin, form in OTHER_FORMS.items() if first.startswith(begin)), None)
+        if form is not None:
+            raise WrongFiles(f"{name} {form}: search finder.Ephemeris.open({name!r}), which reads it")
 
 
 def _texts_of(folder: str) -> list[str]:

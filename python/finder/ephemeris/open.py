@@ -9,10 +9,11 @@ from typing import Any, Optional
 
 from ..reports.calendar import DAY
 from . import ascii_de, binary_de, spk_text, writing
-from .cache import Kept, kept, key_of, sha256_of
+from .cache import Kept, kept, key_of
 from .fitting import FitError, errors_to_keep
 from .sources import Form, SourceFile, WrongSource, source_files
 from .spk_text import Bodies
+from .sums import sha256_of
 from .text import EphemerisText, span_text
 
 Made = tuple[Iterable[bytes], dict[str, Any]]

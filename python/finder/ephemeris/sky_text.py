@@ -224,6 +224,7 @@ class _Making:
             "errors": errors_to_keep(errors),
             "titles": list(text.titles),
             "origin": "earth",
+            "frames": ["eq", "ecl"] if self.model.axes == "j2000" else ["eq"],
             "sky": {
                 "place": self._place(),
                 "model": asdict(self.model),

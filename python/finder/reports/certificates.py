@@ -3,16 +3,20 @@
 from __future__ import annotations
 
 import os
+import shutil
 import tempfile
-from dataclasses import dataclass
+from collections.abc import Mapping
+from dataclasses import dataclass, field, replace
 from pathlib import Path
 from typing import TYPE_CHECKING, Optional, Union
 
 from .. import spans
+from ..ephemeris.named import HasNames, bodies_of, names_of
 from ..ephemeris.names import Files, some_names
+from ..ephemeris.sums import sha256_of
 from ..process.program import Program, runs_of
 from ..public import public
-from ..searches.search import Body, Kind, Wanted, find_options, is_answer, run
+from ..searches.search import Body, Kind, Wanted, is_answer, options_of, run
 from ..searches.words import known
 from .windows import Windows
 
@@ -33,9 +37,15 @@ class Certificate:
     says what was found there. Times are ticks since J2000 (TDB), of which `tick` are in a second.
 
     Nothing of it is believed here: `verify` judges each piece again by the files, whoever made the certificate.
+
+    `sha256` is the SHA-256 of the text of the `Ephemeris` that was searched, `names` are its names by the words of the
+    program, and `save` writes the text beside the certificate. Of files they are empty.
     """
 
     report: spans.CertificateText
+    names: Mapping[str, str] = field(default_factory=dict, compare=False)
+    sha256: str = field(default="", compare=False)
+    _texts: tuple[str, ...] = field(default=(), compare=False)
 
     @classmethod
     def of_text(cls, text: str) -> Certificate:
@@ -44,9 +54,9 @@ class Certificate:
         return cls(spans.one_of(text, spans.CertificateText))
 
     @classmethod
-    def of_report(cls, report: spans.CertificateText) -> Certificate:
+    def of_report(cls, report: spans.CertificateText, names: Optional[Mapping[str, str]] = None) -> Certificate:
         """The certificate of a text that was read."""
-        return cls(report)
+        return cls(report, dict(names or {}))
 
     @classmethod
     def load(cls, name: Union[str, os.PathLike[str]]) -> Certificate:
@@ -59,8 +69,22 @@ class Certificate:
             raise spans.WrongReport(f"{os.fspath(name)} has bytes that no certificate has") from None
 
     def save(self, name: Union[str, os.PathLike[str]]) -> None:
-        """Writes the text to a file: what `finder cert` prints, letter for letter."""
-        Path(name).write_bytes(self.text.encode("ascii"))
+        """Writes the text to a file: what `finder cert` prints, letter for letter.
+
+        Of an `Ephemeris` the text that was searched is written beside it, under the name of the certificate with `.asc`,
+        or of several files with `-0001.asc` and so on; and under its name with `.sha256` the sums of all, as `sha256sum
+        -c` checks them.
+        """
+        path = Path(name)
+        written = [path.name]
+        path.write_bytes(self.text.encode("ascii"))
+        for number, text in enumerate(self._texts):
+            beside = path.with_name(f"{path.name}.asc" if len(self._texts) == 1 else f"{path.name}-{number:04}.asc")
+            shutil.copyfile(text, beside)
+            written.append(beside.name)
+        if self._texts:
+            sums = [f"{sha256_of([str(path.with_name(each))])}  {each}\n" for each in written]
+            path.with_name(f"{path.name}.sha256").write_text("".join(sums), "ascii")
 
     @property
     def text(self) -> str:
@@ -76,6 +100,11 @@ class Certificate:
     def asked(self) -> dict[str, str]:
         """The words of the request by their names, with each option at its value or default."""
         return self.report.asked
+
+    @property
+    def bodies(self) -> dict[str, str]:
+        """Target, second body and observer of the request, by the names of the `Ephemeris` that was searched."""
+        return bodies_of(self.asked, self.names)
 
     @property
     def tick(self) -> int:
@@ -114,10 +143,12 @@ def certificate(
 ) -> Certificate:
     """The certificate of a search, which takes what `find` takes."""
     known("certificate", wanted, Wanted.__optional_keys__)
-    options = find_options(kind, target, second, **wanted)
+    options = options_of(files, kind, target, second, **wanted)
     made = Certificate.of_text(run("cert", options, files, wanted.get("program"), wanted.get("timeout")))
     if not is_answer(made.report, options):
         raise spans.WrongReport(f"a certificate of another request: {made.request}")
+    if isinstance(files, HasNames):
+        made = replace(made, names=names_of(files), sha256=files.sha256, _texts=tuple(files.files))
     return made
 
 
@@ -141,11 +172,11 @@ def verify(
         raise spans.WrongReport(f"a certificate of another request: {made.request}")
     with tempfile.TemporaryDirectory() as folder:
         name = os.path.join(folder, "certificate")
-        made.save(name)
+        Path(name).write_bytes(made.text.encode("ascii"))
         words = [f"--{option}={value}" for option, value in request_options(made.report).items()]
         said = runs_of(program, timeout).run(["verify", *words, f"--cert={name}", "--", *some_names(files)])
     text, found, count = said.rpartition("VERIFIED leaves ")
-    windows = Windows.of_text(text)
+    windows = Windows(spans.read_report(text), names_of(files))
     if not found or count != f"{len(made)}\n" or f"{windows.request} span {windows.report.span}" != made.request:
         raise spans.WrongReport("no verification of this certificate")
     return Verified(windows, len(made))

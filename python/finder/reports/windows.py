@@ -2,13 +2,14 @@
 
 from __future__ import annotations
 
-from collections.abc import Iterator, Sequence
+from collections.abc import Iterator, Mapping, Sequence
 from typing import Any, Optional, Union, overload
 
 import numpy as np
 import numpy.typing as npt
 
 from .. import spans
+from ..ephemeris.named import bodies_of
 from ..public import public
 from ..spans import Report
 from .ends import End, Ends, datetime64_of
@@ -49,9 +50,12 @@ class Windows(Ends, Sequence[Window]):
     `first` and `last` are arrays of int64, ticks since J2000 (TDB) of which `tick` are in a second; `turn` is an array
     of `rise`, `fall` and, for an undecided window, the empty text. The event of a certain window of one tick has
     happened at that tick and had not happened one before. A slice holds some of the windows of the same search.
+
+    `names` are those that an `Ephemeris` has for words of the program, by these words, and `bodies` those of the request.
     """
 
-    def __init__(self, report: Report) -> None:
+    def __init__(self, report: Report, names: Optional[Mapping[str, str]] = None) -> None:
+        self.names = dict(names or {})
         self.request = report.request
         self.tick = report.tick
         self.start = report.start
@@ -62,9 +66,9 @@ class Windows(Ends, Sequence[Window]):
         for array in (self.first, self.last, self.turn):
             array.flags.writeable = False
 
-    def __reduce__(self) -> tuple[type[Windows], tuple[Report]]:
+    def __reduce__(self) -> tuple[type[Windows], tuple[Report, dict[str, str]]]:
         # (arrays that are pickled can be written to where they arrive, those that are made of a report cannot)
-        return Windows, (self.report,)
+        return Windows, (self.report, self.names)
 
     @classmethod
     def of_text(cls, text: str) -> Windows:
@@ -72,9 +76,9 @@ class Windows(Ends, Sequence[Window]):
         return cls(spans.read_report(text))
 
     @classmethod
-    def of_report(cls, report: Report) -> Windows:
+    def of_report(cls, report: Report, names: Optional[Mapping[str, str]] = None) -> Windows:
         """The windows of a report that was read."""
-        return cls(report)
+        return cls(report, names)
 
     @property
     def report(self) -> Report:
@@ -90,6 +94,18 @@ class Windows(Ends, Sequence[Window]):
     def asked(self) -> dict[str, str]:
         """The words of the request by their names, with each option at its value or default."""
         return self.report.asked
+
+    @property
+    def bodies(self) -> dict[str, str]:
+        """Target, second body and observer of the request, by the names of the `Ephemeris` that was searched.
+
+        >>> import finder
+        >>> sky = finder.Ephemeris.open("examples/de405-2000.asc").sky(start="2000-05-01", end="2000-06-01",
+        ...     stars={"regulus": finder.Star(152.093, 11.967)})
+        >>> finder.conjunctions(sky, "moon", "regulus").bodies
+        {'target': 'moon', 'second': 'regulus', 'observer': 'earth'}
+        """
+        return bodies_of(self.asked, self.names)
 
     def __len__(self) -> int:
         return len(self.first)
@@ -111,7 +127,7 @@ class Windows(Ends, Sequence[Window]):
         if isinstance(place, (int, np.integer)):
             return self._window(int(place))
         chosen = [self._window(number) for number in np.arange(len(self))[place]]
-        return Windows(Report(self.request, self.tick, self.start, self.end, tuple(chosen)))
+        return Windows(Report(self.request, self.tick, self.start, self.end, tuple(chosen)), self.names)
 
     def _window(self, place: int) -> Window:
         return Window(int(self.first[place]), int(self.last[place]), str(self.turn[place]) or None, self.tick)

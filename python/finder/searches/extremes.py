@@ -9,7 +9,8 @@ from typing import TYPE_CHECKING, Any, Optional, Union
 import numpy as np
 
 from .. import spans
-from ..ephemeris.names import Files, some_names
+from ..ephemeris.named import held
+from ..ephemeris.names import Files
 from ..ephemeris.series import Series
 from ..process.program import runs_of
 from ..public import public
@@ -59,7 +60,7 @@ class Extreme:
     where: tuple[Span, ...]
     beyond: Optional[Windows]
     short: Windows
-    _files: tuple[str, ...] = field(repr=False)
+    _files: Files = field(repr=False)
     _words: dict[str, Any] = field(repr=False, compare=False)
 
     def certificates(self) -> tuple[Certificate, ...]:
@@ -120,20 +121,20 @@ def _extreme(
     known("greatest" if way > 0 else "least", options, SetOptions.__optional_keys__)
     if options.get("tick", 1) != 1:
         raise ValueError("extremes are those of whole seconds: leave tick= out, and name a margin")
-    names, slack = some_names(files), _margin_of(margin, second)
+    kept, slack = held(files), _margin_of(margin, second)
     asked: dict[str, Any] = {"target": target, "second": second, **options}
     asked.pop("timeout", None)
     # (`timeout` is of all three searches)
     words: dict[str, Any] = {**asked, "program": runs_of(options.get("program"), options.get("timeout"))}
-    windows, numbers = _candidates(find(names, "apsis" if second is None else "sepext", **words), names)
+    windows, numbers = _candidates(find(kept, "apsis" if second is None else "sepext", **words), kept)
     best = int(np.nanargmax(way * numbers))
     value = Fraction(float(numbers[best]))
-    beyond = _search(names, words, value + way * slack, -way)
-    short = _search(names, words, value - way * slack, way)
+    beyond = _search(kept, words, value + way * slack, -way)
+    short = _search(kept, words, value - way * slack, way)
     proved = _proved(beyond, short)
     where = _spans(proved, way if second is None else -way)
     quantity = "distance" if second is None else "separation"
-    return Extreme(quantity, windows[best], float(value), float(slack), where, beyond, proved, tuple(names), asked)
+    return Extreme(quantity, windows[best], float(value), float(slack), where, beyond, proved, kept, asked)
 
 
 def _margin_of(margin: Margin, second: Optional[Body]) -> Fraction:
@@ -159,7 +160,7 @@ def _proved(beyond: Optional[Windows], short: Optional[Windows]) -> Windows:
     return short
 
 
-def _candidates(events: Windows, files: list[str]) -> tuple[list[Window], Floats]:
+def _candidates(events: Windows, files: Files) -> tuple[list[Window], Floats]:
     """The windows in which an extreme may be, both ends of the span among them, and their numbers."""
     ends = [Window(time, time, None) for time in (events.start, events.end)]
     windows = [*events, *ends]
@@ -172,7 +173,7 @@ def _candidates(events: Windows, files: list[str]) -> tuple[list[Window], Floats
     return windows, length(places[0]) if len(places) == 1 else angle(places[0], places[1])
 
 
-def _search(files: list[str], words: dict[str, Any], bound: Fraction, up: int) -> Optional[Windows]:
+def _search(files: Files, words: dict[str, Any], bound: Fraction, up: int) -> Optional[Windows]:
     """The times at which the quantity passes a bound, which is rounded to a decimal towards the extreme: `up` says
     where that is. None where no quantity can pass it."""
     if words["second"] is None:

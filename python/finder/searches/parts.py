@@ -8,6 +8,7 @@ from collections.abc import Callable, Iterable, Sequence
 from typing import Any, Optional, TypeVar, Union
 
 from .. import spans
+from ..ephemeris.named import HasNames, some_of, words_of_request
 from ..ephemeris.names import Files, file_names
 from ..process.program import WAIT, Program, Runs, runs_of
 from ..public import public
@@ -41,7 +42,7 @@ def join(parts: Iterable[Found], files: Optional[Summary] = None) -> Found:
             raise TypeError(f"windows, sets and certificates are joined, and not {type(part).__name__}")
     kind: Any = type(found[0]) if found else Windows
     whole = kind.joined(found) if kind is TimeSet else spans.join_parts([part.report for part in found], checked)
-    made: Found = whole if kind is TimeSet else kind.of_report(whole)
+    made: Found = whole if kind is TimeSet else kind.of_report(whole, found[0].names if found else {})
     return made
 
 
@@ -83,6 +84,11 @@ def over_files(
     if not names:
         raise spans.WrongParts("no file is named")
     first = [] if header is None else [os.fspath(header)]
+    if isinstance(files, HasNames):
+        # (the text of an `Ephemeris` is one file, or a header and files of blocks)
+        first, names = names[: len(names) > 1], names[len(names) > 1 :]
+        wanted = words_of_request(files, {"start": start, "end": end})
+        start, end = wanted["start"], wanted["end"]
     low = None if start is None else ticks_of_time(start, tick, up=False) * (1_000 // tick)
     high = None if end is None else ticks_of_time(end, tick, up=True) * (1_000 // tick)
     with _Calls(executor, jobs, program, timeout) as calls:
@@ -91,7 +97,10 @@ def over_files(
         if progress is not None and len(plan) < len(names):
             progress(len(names) - len(plan))
         told = {**options, "tick": tick}
-        rows = [(search, [*first, name], words, _time_of(begin), _time_of(stop), told) for begin, stop, name in plan]
+        rows = [
+            (search, some_of(files, [*first, name]), words, _time_of(begin), _time_of(stop), told)
+            for begin, stop, name in plan
+        ]
         made: Found = join(calls.results(_part, rows, progress), read[0])
         return made
 
@@ -131,7 +140,7 @@ class _Calls:
 
 def _part(
     search: Callable[..., Found],
-    files: list[str],
+    files: Files,
     words: tuple[Any, ...],
     start: str,
     end: str,

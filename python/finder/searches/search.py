@@ -5,7 +5,8 @@ from __future__ import annotations
 from typing import TYPE_CHECKING, Any, Literal, Optional, TypedDict, Union, get_args
 
 from .. import spans
-from ..ephemeris.names import Files, file_names, some_names
+from ..ephemeris.named import held, names_of, words_of_request
+from ..ephemeris.names import Files, some_names
 from ..process.program import Program, runs_of
 from ..public import public
 from ..reports.sets import TimeSet
@@ -141,7 +142,8 @@ def find(
     `radii` are in km, but of `sep` the cosine of an angle; `width` is in ticks, of which `tick` are in a second. Where
     no observer is named it is `ssb`, the barycentre of the solar system; for what is asked from a planet that is told
     by a `BarycentreWarning`."""
-    options = find_options(
+    options = options_of(
+        files,
         kind,
         target,
         second,
@@ -162,7 +164,13 @@ def find(
     report = spans.read_report(run("find", options, files, program, timeout))
     if not is_answer(report, options):
         raise spans.WrongReport(f"a report of another request: {report.request}")
-    return Windows(report)
+    return Windows(report, names_of(files))
+
+
+def options_of(files: Files, kind: Kind, target: Body, second: Optional[Body], **wanted: Any) -> dict[str, Any]:
+    """The options of the command for what `find` takes, where an `Ephemeris` has put its words for the names."""
+    words = words_of_request(files, {**wanted, "target": target, "second": second})
+    return find_options(kind, words.pop("target"), words.pop("second"), **words)
 
 
 def find_options(
@@ -230,19 +238,18 @@ def times(
     The times of the set are ticks of the span from `start` to `end`, both among them. A `start` between two ticks is
     rounded down and an `end` up, so that no time of what was asked for is left out.
     """
+    asked = {"target": target, "second": second, "observer": observer, "frame": frame, "start": start, "end": end}
+    words = words_of_request(files, asked)
     options: dict[str, Any] = {
         "kind": kind,
-        "target": target,
-        "second": second,
-        "observer": observer,
-        "frame": frame,
+        **{name: words[name] for name in ("target", "second", "observer", "frame")},
         "axis": axis,
         "ref": None if ref is None else decimal_text(ref),
         "relation": relation,
         "ref2": None if ref2 is None else decimal_text(ref2),
         "tick": tick,
-        "from": _time_word(start, tick, up=False),
-        "to": _time_word(end, tick, up=True),
+        "from": _time_word(words["start"], tick, up=False),
+        "to": _time_word(words["end"], tick, up=True),
         "width": width,
         "depth": depth,
         "workers": workers,
@@ -404,10 +411,10 @@ def _by_angle(
         return times(files, "sep", target, second, relation=relation, ref=cosine, **options)
     # The cosine of sure times, then that of possible ones: one where it is a decimal.
     cosines = dict.fromkeys(cosine_of_degrees(degrees, up=up) for up in (relation == "atleast", relation == "less"))
-    names = file_names(files)
+    kept = held(files)
     # (`timeout` is of both searches)
     options["program"] = runs_of(options.get("program"), options.get("timeout"))
-    sure, *possible = (times(names, "sep", target, second, relation=relation, ref=ref, **options) for ref in cosines)
+    sure, *possible = (times(kept, "sep", target, second, relation=relation, ref=ref, **options) for ref in cosines)
     return sure.up_to(possible[0]) if possible else sure
 
 

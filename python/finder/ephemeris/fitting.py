@@ -31,6 +31,7 @@ PLACES = 16
 # The random times within a granule at which a fit is compared with its motion, and the fewest of all.
 TIMES_EACH = 6
 FEWEST_TIMES = 2_000
+INSIDE = 1e-3
 SEED = 66
 
 
@@ -151,14 +152,16 @@ def fitted(motions: Motions, grid: Grid, count: int, tolerance: Mapping[str, Tol
 
 
 def times_of_check(grid: Grid) -> tuple[Numbers, Floats]:
-    """The granules and the times at which a fit is compared: random ones, and both ends of each granule."""
+    """The granules and the times at which a fit is compared: random ones, and both ends of each granule, a millisecond
+    inside, as the source itself may jump at them: the Moon of DE405 does by up to a centimetre."""
     random = np.random.default_rng(SEED)
     each = max(TIMES_EACH, -(-FEWEST_TIMES // grid.count))
     granules = np.repeat(np.arange(grid.count), each)
     times = grid.starts[granules] + grid.length * random.uniform(0, 1, len(granules))
     ends = np.concatenate([grid.starts, [grid.end]])
     order = np.arange(grid.count)
-    return np.concatenate([granules, order, order]), np.concatenate([times, ends[:-1], ends[1:]])
+    inside = min(INSIDE, grid.length / 4)
+    return np.concatenate([granules, order, order]), np.concatenate([times, ends[:-1] + inside, ends[1:] - inside])
 
 
 def compared(motions: Motions, grid: Grid, series: Mapping[str, Floats], granules: Numbers, times: Floats) -> dict[str, Comparison]:

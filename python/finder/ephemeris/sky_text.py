@@ -26,9 +26,11 @@ from .series import Series
 from .stars import Star, star_of
 from .text import DATE_STEP, EphemerisText, WrongText, span_text
 
-# A granule is a day, in which the Earth turns once: 18 coefficients leave 10^-7 arc seconds of the zenith. The largest
+# A granule of a place is a day, in which the Earth turns once: 18 coefficients leave 10^-7 arc seconds of the zenith. The largest
 # error that is allowed, in arc seconds, and the coefficients at most.
 COEFFICIENTS = 20
+# The days of a granule of the Earth's centre, the first ones that the source has.
+CENTRE_DAYS = (4, 2)
 TOLERANCE = Tolerance(arcseconds=3e-6)
 # The seconds before the span that the source needs: light takes 7 hours from Pluto at its farthest.
 LIGHT_WAY = 27_000
@@ -88,8 +90,8 @@ class SkyText(Ephemeris):
         spot = None if place is None else Place.of(place)
         rotation = None if spot is None else earth_rotation(delta_t=delta_t)
         seen = {name: star_of(star, name) for name, star in (stars or {}).items()}
-        grid = _grid(source, seconds_of_time(start), seconds_of_time(end))
-        making = _Making(source, spot, rotation, model, _bodies(source, bodies, spot, seen), seen, grid)
+        asked = _grid(source, seconds_of_time(start), seconds_of_time(end), CENTRE_DAYS if spot is None else ())
+        making = _Making(source, spot, rotation, model, _bodies(source, bodies, spot, seen), seen, asked)
         return cls(kept(making.key(), making.make, cache))
 
     @property
@@ -140,14 +142,15 @@ def _bodies(source: Ephemeris, bodies: Optional[Iterable[str]], place: Optional[
     return made
 
 
-def _grid(source: Ephemeris, start: Optional[float], end: Optional[float]) -> Grid:
-    """Days from the start to the end of a sky: those that are asked for, or those of which the source has all light."""
+def _grid(source: Ephemeris, start: Optional[float], end: Optional[float], days: tuple[int, ...]) -> Asked:
+    """The span of a sky, which is that asked for, or that of which the source has all light; and granules about it, of
+    the first of some numbers of days for which the source reaches. They begin at a midnight, as those of JPL do."""
     low, high = source.start + LIGHT_WAY, source.end
     asked_start, asked_end = source.asked
-    first = start if start is not None else asked_start if asked_start is not None else low
-    last = end if end is not None else asked_end if asked_end is not None else high
-    begin = int(np.floor(first / DATE_STEP)) * DATE_STEP if first != low else -(-low // DATE_STEP) * DATE_STEP
-    count = int(np.floor((last - begin) / DAY)) if last == high else int(np.ceil((last - begin) / DAY))
+    first = start if start is not None else asked_start if asked_start is not None else _midnight(low + DAY - 1)
+    last = end if end is not None else asked_end if asked_end is not None else _midnight(high)
+    begin = _midnight(first) if _midnight(first) >= low else int(np.floor(first / DATE_STEP)) * DATE_STEP
+    count = int(np.ceil((last - begin) / DAY))
     if count < 1:
         raise WrongText(f"a sky has one day at least, and {span_text(first, last)} has none: name start= before end=")
     if begin < low or begin + count * DAY > high:
@@ -156,7 +159,22 @@ def _grid(source: Ephemeris, start: Optional[float], end: Optional[float]) -> Gr
             f"light takes its time, and the source has {span_text(source.start, source.end)}: name a shorter span, or "
             "open more of the source"
         )
-    return Grid(begin, float(DAY), count)
+    size = next(each for each in (*days, 1) if begin + -(-count // each) * each * DAY <= high)
+    return Asked(first, last, Grid(begin, float(size * DAY), -(-count // size)))
+
+
+def _midnight(seconds: float) -> int:
+    """The midnight of TDB at seconds since J2000, or the one before them."""
+    return int(np.floor((seconds + DAY / 2) / DAY)) * DAY - DAY // 2
+
+
+@dataclass(frozen=True)
+class Asked:
+    """The span that is asked for, in seconds since J2000 (TDB), and the granules about it."""
+
+    start: float
+    end: float
+    grid: Grid
 
 
 @dataclass(frozen=True)
@@ -169,7 +187,12 @@ class _Making:
     model: Model
     bodies: list[str]
     stars: Mapping[str, Star]
-    grid: Grid
+    asked: Asked
+
+    @property
+    def grid(self) -> Grid:
+        """The granules."""
+        return self.asked.grid
 
     def key(self) -> str:
         """The key of the text: by the source, the place, how the Earth turns, the model, the bodies and the versions."""
@@ -177,7 +200,7 @@ class _Making:
         stars = {name: asdict(star) for name, star in self.stars.items()}
         facts = [self.source.sha256, self._place(), self._sentence(), asdict(self.model), self.bodies, stars]
         distances = [ZENITH_DISTANCE, STAR_DISTANCE]
-        return key_of(["sky", *versions(), *facts, turns, asdict(self.grid), distances])
+        return key_of(["sky", *versions(), *facts, turns, asdict(self.asked), distances])
 
     def _place(self) -> Optional[list[float]]:
         return None if self.place is None else [self.place.latitude, self.place.longitude, self.place.metres]
@@ -210,7 +233,7 @@ class _Making:
         words = words_of(names)
         text = EphemerisText(
             self.grid.start,
-            DAY,
+            int(self.grid.length),
             self.grid.count,
             columns_of({words[name]: (fit, 1) for name, fit in fits.items()}),
             titles=self._titles(words, errors, edges),
@@ -219,7 +242,7 @@ class _Making:
             "name": "sky",
             "start": text.start,
             "end": text.end,
-            "asked": [text.start, text.end],
+            "asked": [self.asked.start, self.asked.end],
             "names": {**words, "earth": "earth", "ssb": "ssb"},
             "errors": errors_to_keep(errors),
             "titles": list(text.titles),
@@ -247,7 +270,7 @@ class _Making:
         made = []
         for run in np.split(wrong, np.flatnonzero(np.diff(wrong) > 1) + 1) if len(wrong) else []:
             largest = float(angles[np.isin(near, run)].max())
-            made.append(Edge(name, float(self.grid.starts[run[0]]), float(self.grid.starts[run[-1]] + DAY), largest))
+            made.append(Edge(name, float(self.grid.starts[run[0]]), float(self.grid.starts[run[-1]] + self.grid.length), largest))
         return made, wrong.tolist()
 
     def _titles(self, words: Mapping[str, str], errors: Mapping[str, Any], edges: list[Edge]) -> tuple[str, ...]:

@@ -66,7 +66,11 @@ class Sky(SkyText):
         self._program: Runs = runs_of(program, None)
         self._series: Optional[Series] = None
         self._centres: dict[str, Sky] = {}
-        self._span: Span = self.start, self.end
+        first, last = self.asked
+        self._span: Span = (
+            self.start if first is None else max(self.start, math.floor(first)),
+            self.end if last is None else min(self.end, math.ceil(last)),
+        )
         self.searches = Searches(self, self._program, self.axes)
 
     @classmethod
@@ -87,11 +91,15 @@ class Sky(SkyText):
         2000-06-21 08:02:32 UTC  moonset  SW
         """
         first, last = ticks_of_time(start, SECOND, up=False), ticks_of_time(end, SECOND, up=True)
-        if not self.start <= first < last <= self.end:
+        if not self._span[0] <= first < last <= self._span[1]:
             raise ValueError(f"a part of a sky lies in its span and ends after it starts: {self!r}")
+        return self._part((first, last))
+
+    def _part(self: Made, span: Span) -> Made:
+        """The same sky with another span, which shares the searches."""
         made = type(self).__new__(type(self))
         made.__dict__.update(self.__dict__)
-        made._span = first, last
+        made._span = span
         return made
 
     @property
@@ -125,11 +133,10 @@ class Sky(SkyText):
             if self._source is None:
                 raise ValueError("this sky keeps no source: make it by Ephemeris.sky()")
             bodies = [body for body in ("sun", "moon", *PLANETS) if body in self._source.names]
-            words = self._source, None, self.start, self.end, Model(axes=axes)
+            first, last = self.asked
+            words = self._source, None, first, last, Model(axes=axes)
             self._centres[axes] = Sky.of(*words, bodies=bodies, **self._words)
-        made = self._centres[axes]
-        made._span = self._span
-        return made
+        return self._centres[axes]._part(self._span)
 
     def _needs_place(self, question: str) -> Place:
         """The place; a `ValueError` says that a question has none."""

@@ -149,7 +149,11 @@ class ApparentSky:
         far = length(place)
         if self._model.light_time:
             for _ in range(PASSES):
-                place = self._series.body(body, moment.times - far / LIGHT) - moment.here
+                sent = moment.times - far / LIGHT
+                place = self._series.body(body, sent) - moment.here
+                if body == "moon":
+                    # (a double of all seconds has 10^-7 of one, in which the Moon goes some millimetres with the Earth)
+                    place = place + moment.speed * (moment.times - sent - far / LIGHT)
                 far = length(place)
         return self._seen(place / far, far, None if body == "sun" else place, moment, body == "sun")
 

@@ -35,7 +35,8 @@ def nodes(count: int) -> Floats:
 @lru_cache(maxsize=None)
 def transform(count: int) -> Floats:
     """The matrix that takes values at the nodes to the coefficients of the series through them."""
-    made = 2.0 / count * chebvander(nodes(count), count - 1).T  # type: ignore[no-untyped-call]
+    turns = np.outer(np.arange(count), 2 * np.arange(count) + 1) % (4 * count)
+    made = 2.0 / count * np.cos(np.pi * turns / (2 * count))
     made[0] /= 2
     return floats(made)
 
@@ -45,6 +46,20 @@ def rates(count: int) -> Floats:
     """The matrix that takes values at the nodes to the derivatives of their series there, by the argument."""
     derived = chebder(transform(count))  # type: ignore[no-untyped-call]
     return floats(chebvander(nodes(count), count - 2) @ derived)  # type: ignore[no-untyped-call]
+
+
+def series_of(values: Floats, late: Floats, length: float) -> Floats:
+    """The coefficients, by granule, component and coefficient, of the series through values by component, granule and
+    node: each is carried on by so many seconds to its node, by the rate of their series over granules of a length."""
+    count = values.shape[2]
+    # (differences to one value keep the digits that sums of all of them would lose)
+    first = values[:, :, :1]
+    rest = values - first
+    if count > 1:
+        rest = rest + np.einsum("kn,agn->agk", rates(count), rest) * (2 / length) * late
+    made = np.einsum("kn,agn->gak", transform(count), rest)
+    made[:, :, 0] += first[:, :, 0].T
+    return floats(made)
 
 
 @dataclass(frozen=True)
@@ -77,11 +92,7 @@ class Grid:
     def series(self, values: Floats, late: Floats, count: int) -> Floats:
         """The coefficients of the series through values, whose last axis is that of the times of `count` nodes: by
         granule, component and coefficient. The values are carried on to the nodes by the rate of their own series."""
-        shaped = values.reshape(-1, self.count, count)
-        if count > 1:
-            slopes = np.einsum("kn,agn->agk", rates(count), shaped) * (2 / self.length)
-            shaped = shaped + slopes * late.reshape(self.count, count)
-        return floats(np.einsum("kn,agn->gak", transform(count), shaped))
+        return series_of(values.reshape(-1, self.count, count), late.reshape(self.count, count), self.length)
 
     def sums(self, series: Floats, granules: Numbers, times: Floats) -> Floats:
         """The sums of series of granules, each at a time within its granule: components by times."""

@@ -11,7 +11,7 @@ import numpy.typing as npt
 
 from ..reports.calendar import DAY
 from ..seen.vectors import Floats, floats, length
-from .chebyshev import Grid, nodes, rates, transform
+from .chebyshev import Grid, nodes, series_of
 from .text import MAX_KILOMETRES, WrongText, span_text, time_text
 
 # Several motions at once: seconds since J2000 (TDB), an array of n, to places in km by name, arrays of 3 by n.
@@ -21,9 +21,14 @@ Numbers = npt.NDArray[np.int_]
 ARC_SECONDS = float(np.degrees(1) * 3_600)
 # The coefficients that are looked at to choose a granule, of which the last ones have to be nothing.
 TRIED = 24
-# A series is cut off where what is left is below this part of the tolerance; and of so many doubles of a place, at which
-# the tolerance is put where it is below them.
+# A series is cut off where what is left is below this part of the tolerance, which is put at so many doubles of a place
+# where it is below them.
 SHARE = 0.25
+# The last coefficients show how doubles scatter, if they no longer fall: so many times that may be left, up to a half of
+# the tolerance.
+LAST, SCATTERS, MOST_NOISE = 6, 1.5, 0.5
+# The coefficients, of those that are tried, that have to be over.
+SPARE = 3
 LAST_BITS = 16 * np.finfo(float).eps
 # The lengths of granules that are tried, in seconds, and in how many places of the span.
 LENGTHS = (*(32 * DAY / 2**power for power in range(13)), 225.0, 75.0, 25.0, 5.0, 1.0)
@@ -131,13 +136,17 @@ def _shape(places: object) -> str:
     return f"an array of shape {places.shape} and type {places.dtype}"
 
 
-def trimmed(series: Floats, allowed: Floats) -> Floats:
-    """Series of granules without their last coefficients, as far as the sum of these is below what is allowed for each
-    granule, in km."""
-    tails = np.abs(series[:, :, ::-1]).cumsum(axis=2)[:, :, ::-1]
-    needed = (np.sqrt((tails**2).sum(axis=1)) > allowed[:, None]).any(axis=0)
-    count = int(np.flatnonzero(needed)[-1]) + 1 if needed.any() else 1
-    return floats(series[:, :, :count])
+def coefficients_needed(series: Floats, allowed: Floats) -> int:
+    """How many coefficients series of granules need, of those that they have, where so much is allowed for each granule,
+    in km: the others together leave a part of it, or are the scatter of doubles, which the last ones show."""
+    count = series.shape[2]
+    squares = (series**2).sum(axis=1)
+    tails = np.sqrt(squares[:, ::-1].cumsum(axis=1)[:, ::-1])
+    scatter = np.sqrt(squares[:, -min(LAST, count) :].mean(axis=1))
+    noise = SCATTERS * scatter[:, None] * np.sqrt(np.arange(count, 0, -1))
+    least = np.minimum(MOST_NOISE * allowed[:, None], noise)
+    needed = (tails > np.maximum(SHARE * allowed[:, None], least)).any(axis=0)
+    return int(np.flatnonzero(needed)[-1]) + 1 if needed.any() else 1
 
 
 def fitted(motions: Motions, grid: Grid, count: int, tolerance: Mapping[str, Tolerance]) -> dict[str, Floats]:
@@ -147,7 +156,7 @@ def fitted(motions: Motions, grid: Grid, count: int, tolerance: Mapping[str, Tol
     for name, places in places_of(motions, times).items():
         distance = length(places).reshape(grid.count, count).min(axis=1)
         series = grid.series(places, late, count)
-        made[name] = trimmed(series, SHARE * tolerance[name].at(distance))
+        made[name] = series[:, :, : coefficients_needed(series, tolerance[name].at(distance))]
     return made
 
 
@@ -222,10 +231,7 @@ def _coefficients_needed(
     offsets = size * (nodes(TRIED) + 1) / 2
     times = starts[:, None] + offsets
     places = places_of(motions, times.ravel())[name]
-    shaped = places.reshape(3, len(starts), TRIED)
-    slopes = np.einsum("kn,agn->agk", rates(TRIED), shaped) * (2 / size)
-    series = np.einsum("kn,agn->gak", transform(TRIED), shaped + slopes * (offsets - (times - starts[:, None])))
-    allowed = SHARE * tolerance.at(length(places).reshape(len(starts), TRIED).min(axis=1))
-    tail = float(np.abs(series[:, :, -3:]).max())
-    count = trimmed(series, allowed).shape[2]
-    return (count if count <= TRIED - 3 else None), tail
+    series = series_of(places.reshape(3, len(starts), TRIED), offsets - (times - starts[:, None]), size)
+    allowed = tolerance.at(length(places).reshape(len(starts), TRIED).min(axis=1))
+    count = coefficients_needed(series, allowed)
+    return (count if count <= TRIED - SPARE else None), float(np.abs(series[:, :, -SPARE:]).max())

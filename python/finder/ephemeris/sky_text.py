@@ -26,11 +26,12 @@ from .series import Series
 from .stars import Star, star_of
 from .text import DATE_STEP, EphemerisText, WrongText, span_text
 
-# A granule of a place is a day, in which the Earth turns once: 18 coefficients leave 10^-7 arc seconds of the zenith. The largest
-# error that is allowed, in arc seconds, and the coefficients at most.
+# A granule of a place is a day, in which the Earth turns once: 18 coefficients leave 10^-7 arc seconds of the zenith. The
+# most coefficients, to what a series is fitted, and the largest error that is let through.
 COEFFICIENTS = 20
 # The days of a granule of the Earth's centre, the first ones that the source has.
 CENTRE_DAYS = (4, 2)
+FITTED = Tolerance(arcseconds=1e-6)
 TOLERANCE = Tolerance(arcseconds=3e-6)
 # The seconds before the span that the source needs: light takes 7 hours from Pluto at its farthest.
 LIGHT_WAY = 27_000
@@ -218,7 +219,7 @@ class _Making:
             return sky.places(times, self.bodies, directions)
 
         names = [*self.bodies, *self.stars]
-        fits = fitted(motions, self.grid, COEFFICIENTS, dict.fromkeys(names, TOLERANCE))
+        fits = fitted(motions, self.grid, COEFFICIENTS, dict.fromkeys(names, FITTED))
         granules, times = times_of_check(self.grid)
         every = compared(motions, self.grid, fits, granules, times)
         edges: list[Edge] = []

@@ -146,12 +146,19 @@ class Kernels:
 
     def _evaluated(self, segment: Any, times: Floats) -> Floats:
         """The places of a segment on the equator of J2000, by the library that knows its type."""
-        days = np.floor(times / DAY)
-        try:
-            places = segment.compute(J2000_DATE + days, (times - days * DAY) / DAY)
-        except ValueError:
+        if segment.data_type in COPIED_TYPES:
+            days = np.floor(times / DAY)
+            return on_equator(floats(segment.compute(J2000_DATE + days, (times - days * DAY) / DAY)[:3]), segment.frame)
+        if has_spice():
             return _by_spice(self.files, segment, times)
-        return on_equator(floats(places[:3]), segment.frame)
+        try:
+            # (jplephem looks at one number of a time there, which has 4 10^-5 seconds)
+            return on_equator(floats(segment.compute(J2000_DATE + times / DAY)), segment.frame)
+        except ValueError:
+            raise ImportError(
+                f"the places of {segment.target} from {segment.center} are of type {segment.data_type}, which needs the package "
+                "spiceypy (pip: spiceypy): jplephem reads types 2 and 3"
+            ) from None
 
 
 def on_equator(places: Floats, frame: int) -> Floats:
@@ -189,15 +196,24 @@ def _opened(file: SourceFile) -> Any:
         raise WrongSource(f"{file.name} is a damaged SPK kernel ({error}): copy it anew") from None
 
 
-def _by_spice(files: list[SourceFile], segment: Any, times: Floats) -> Floats:
-    """The places of a segment of a type that jplephem does not know, by SpiceyPy."""
-    what = f"the places of {segment.target} from {segment.center} are of type {segment.data_type}"
+def has_spice() -> bool:
+    """Whether SpiceyPy is installed."""
     try:
-        import spiceypy
+        import spiceypy  # noqa: F401
     except ImportError:
-        raise ImportError(f"{what}, which needs the package spiceypy (pip: spiceypy): jplephem reads types 2 and 3") from None
+        return False
+    return True
+
+
+def _by_spice(files: list[SourceFile], segment: Any, times: Floats) -> Floats:
+    """The places of a segment by SpiceyPy, on the equator of J2000."""
+    import spiceypy
+
     if not all(file.is_plain for file in files):
-        raise WrongSource(f"{what}, which SpiceyPy reads of files that are not compressed: unpack them")
+        raise WrongSource(
+            f"the places of {segment.target} are of type {segment.data_type}, which SpiceyPy reads of files that are not "
+            "compressed: unpack them"
+        )
     for file in files:
         spiceypy.furnsh(file.name)
     try:

@@ -16,7 +16,7 @@ from .chebyshev import Grid
 from .columns import FREE
 from .fitting import FitError, Tolerance, compared, fitted, granule_of, refuse, times_of_check
 from .sources import SourceFile, WrongSource
-from .spk import COPIED_TYPES, IDS, Kernels, Leg, Piece, on_equator, records
+from .spk import COPIED_TYPES, IDS, Kernels, Leg, Piece, has_spice, on_equator, records
 from .text import AXES, COLUMNS, DATE_STEP, MAX_BLOCKS, MAX_DAYS, MAX_NUMBERS, Column, EphemerisText, WrongText, span_text
 
 Bodies = Union[None, Iterable[Union[str, int]], Mapping[str, Union[str, int]]]
@@ -24,6 +24,8 @@ Bodies = Union[None, Iterable[Union[str, int]], Mapping[str, Union[str, int]]]
 MASS_RATIO = 81.3005682214972154
 # What is fitted may be so far from the kernel, in km: the doubles of a place at 40 au have 10^-6.
 TOLERANCE = Tolerance(kilometres=1e-6)
+# jplephem takes one double for a time of other types, which has 4 10^-5 seconds, in which a planet goes by a metre.
+COARSE = Tolerance(kilometres=1e-2)
 COEFFICIENTS = 24
 SHORTEST = 675
 
@@ -62,6 +64,12 @@ class Wanted:
             return None
         start, size = found.pop()
         return Records(start, size, most)
+
+    @property
+    def tolerance(self) -> Tolerance:
+        """How far its series may be from it."""
+        is_exact = has_spice() or all(piece.segment.data_type in COPIED_TYPES for piece in self.pieces)
+        return TOLERANCE if is_exact else COARSE
 
     @property
     def pieces(self) -> list[Piece]:
@@ -170,7 +178,7 @@ def _names(kernels: Kernels, bodies: Bodies) -> dict[str, int]:
         if isinstance(number, str):
             number = _number_of(number)
         if number is None or kernels.path(number) is None:
-            raise _lacking(kernels, str(name))
+            raise _lacking(kernels, str(name) if name == body else f"{name} ({body})")
         made[str(name)] = number
     return made
 
@@ -285,11 +293,11 @@ def _column(kernels: Kernels, wanted: Wanted, layout: EphemerisText) -> tuple[Co
         # (a node may round to a time before the first second)
         return {wanted.name: wanted.places(kernels, np.clip(times, layout.start, layout.end))}
 
-    size, count = granule_of(wanted.name, motions, layout.start, layout.end, TOLERANCE)
+    size, count = granule_of(wanted.name, motions, layout.start, layout.end, wanted.tolerance)
     granules = granules_in(layout.block, size)
     made = Grid(layout.start, layout.block / granules, layout.blocks * granules)
-    allowed = {wanted.name: TOLERANCE}
+    allowed = {wanted.name: wanted.tolerance}
     series = fitted(motions, made, max(count, COEFFICIENTS), allowed)
     each = compared(motions, made, series, *times_of_check(made))[wanted.name]
-    refuse(wanted.name, each, TOLERANCE, "the kernel has a jump there: name a span without it")
+    refuse(wanted.name, each, wanted.tolerance, "the kernel has a jump there: name a span without it")
     return Column(series[wanted.name], granules), each.error(np.ones(len(each.times), bool))

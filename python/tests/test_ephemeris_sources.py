@@ -266,7 +266,7 @@ class Kernels(InCache):
         eph = finder.Ephemeris.open(kernels.write_spk(self.folder / "part.bsp", segments))
         self.assertEqual((eph.start, eph.end), (start + 40 * DAY, start + 200 * DAY))
         self.assertEqual(finder.check(eph).block, 8 * DAY)
-        self.assertLess(max(error.largest_arcseconds for error in eph.errors.values()), 1e-9)
+        self.assertLess(max(error.largest_km for error in eph.errors.values()), 4e-6)
         times = np.random.default_rng(3).uniform(eph.start, eph.end, 500)
         for body in ("mercury", "mars", "pluto", "moon", "earth"):
             off = finder.Series(eph).body(body, times) - finder.Series(YEAR).body(body, times)

@@ -73,20 +73,28 @@ class Kernels:
 
     files: list[SourceFile]
     segments: dict[tuple[int, int], list[Any]] = field(default_factory=dict)
+    opened: list[Any] = field(default_factory=list)
 
     @classmethod
     def of(cls, files: list[SourceFile]) -> Kernels:
         """The kernels of files."""
         made = cls(files)
         for file in files:
-            for segment in _opened(file).segments:
+            made.opened.append(_opened(file))
+            for segment in made.opened[-1].segments:
                 if segment.frame not in (EQUATOR, ECLIPTIC):
+                    made.close()
                     raise WrongSource(
                         f"{file.name} has places of {segment.target} on the axes of the frame {segment.frame}: those of "
                         "J2000 (1) and of its ecliptic (17) are read"
                     )
                 made.segments.setdefault((segment.target, segment.center), []).append(segment)
         return made
+
+    def close(self) -> None:
+        """Closes the files."""
+        for kernel in self.opened:
+            kernel.close()
 
     @property
     def names(self) -> str:
@@ -190,9 +198,11 @@ def _opened(file: SourceFile) -> Any:
         from jplephem.spk import SPK
     except ImportError:
         raise ImportError(f"{file.name} is an SPK kernel, which needs the package jplephem (Debian: python3-jplephem)") from None
+    stream = open(file.name, "rb") if file.is_plain else io.BytesIO(file.data)
     try:
-        return SPK.open(file.name) if file.is_plain else SPK(DAF(io.BytesIO(file.data)))
+        return SPK(DAF(stream))
     except (ValueError, OSError, IndexError) as error:
+        stream.close()
         raise WrongSource(f"{file.name} is a damaged SPK kernel ({error}): copy it anew") from None
 
 

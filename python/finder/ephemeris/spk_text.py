@@ -2,6 +2,7 @@
 
 from __future__ import annotations
 
+import contextlib
 import math
 from collections.abc import Iterable, Mapping
 from dataclasses import dataclass, replace
@@ -116,7 +117,12 @@ class KernelText:
 
 def read(files: list[SourceFile], start: Optional[float], end: Optional[float], margin: float, bodies: Bodies) -> KernelText:
     """The text of kernels over a span in seconds since J2000 (TDB), with so many seconds around it where they have it."""
-    kernels = Kernels.of(files)
+    with contextlib.closing(Kernels.of(files)) as kernels:
+        return _read(kernels, start, end, margin, bodies)
+
+
+def _read(kernels: Kernels, start: Optional[float], end: Optional[float], margin: float, bodies: Bodies) -> KernelText:
+    """What `read` does, of kernels that are open."""
     wanted, names, mass_ratio = _wanted(kernels, bodies)
     low, high = max(each.start for each in wanted.values()), min(each.end for each in wanted.values())
     least = max(wanted.values(), key=lambda each: each.start), min(wanted.values(), key=lambda each: each.end)

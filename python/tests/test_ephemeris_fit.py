@@ -164,10 +164,9 @@ class Fits(InCache):
         """The text that is written is one for the program, with its own words for the names."""
         eph = self.fit({"probe": circle(3 * DAY)})
         names = eph.write(self.folder / "out")
-        found = finder.coordinate(list(names), "pluto", "x", 5e5)
+        found = finder.coordinate(list(names), "pluto", "x", 3e5)
         self.assertEqual(found.asked["target"], "pluto")
-        # (the cosine is a half after a sixth of a turn)
-        self.assertIn(DAY // 2, found.last.tolist())
+        self.assertIn(np.ceil(3 * DAY * np.arccos(0.3) / (2 * np.pi)), found.last)
         self.assertEqual(os.path.basename(names[0]), "motions.asc")
 
     def test_over_files_certificates_and_publishing(self):

@@ -25,6 +25,8 @@ OF_PROGRAM = {
 # The words of the package, each the name of a module of this folder, and what each does.
 WORDS = {
     "almanac": "an almanac of a year: text, a page, a table or a calendar",
+    "cache": "the texts that the package keeps: listed, or removed",
+    "text": "a kernel, a binary file or the sky of a place as text files for the program",
 }
 STATUS = "status: 0; 1 refused, and standard error says why; 2 the words; 3 standard output failed"
 REFUSED, WRONG_WORDS, UNWRITTEN, INTERRUPTED = 1, 2, 3, 130

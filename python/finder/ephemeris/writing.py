@@ -4,7 +4,6 @@ from __future__ import annotations
 
 import textwrap
 from collections.abc import Iterator
-from decimal import Decimal
 from fractions import Fraction
 
 import numpy as np
@@ -73,7 +72,7 @@ def header(text: EphemerisText) -> bytes:
     days = Fraction(text.block, DAY)
     constants = {**text.constants, "EMRAT": text.mass_ratio}
     names = "".join(f"  {name[:6]:6}" for name in constants)
-    values = "".join(map(_constant, constants.values()))
+    values = fields(np.array(list(constants.values()))).tobytes().decode("ascii")
     groups = {
         "1010": "\n".join(title_lines(text.titles)),
         "1030": f"  {date_text(text.start)}  {date_text(text.end)}  {float(days)!r}",
@@ -84,15 +83,6 @@ def header(text: EphemerisText) -> bytes:
     rows = [f"KSIZE={2 * text.numbers:6}    NCOEFF={text.numbers:6}"]
     rows += [f"GROUP   {number}\n\n{body}" for number, body in groups.items()]
     return ("\n\n".join([*rows, "GROUP   1070"]) + "\n\n").encode("ascii")
-
-
-def _constant(value: float) -> str:
-    """A constant in JPL's form: the shortest decimal that is its double, as JPL wrote it."""
-    sign, digits, exponent = Decimal(repr(value)).as_tuple()
-    assert isinstance(exponent, int)
-    power = exponent + len(digits) if any(digits) else 0
-    mantissa = "".join(map(str, digits)).ljust(18, "0")
-    return f" {'-' if sign else ' '}0.{mantissa}D{'-' if power < 0 else '+'}{abs(power):02}"
 
 
 def title_lines(titles: tuple[str, ...]) -> list[str]:

@@ -6,7 +6,8 @@ import importlib.util
 import os
 
 import finder
-from finder.almanac.almanac import Machine, almanac_of_seconds
+from finder.almanac.almanac import Machine, Wanted
+from finder.almanac.almanac import almanac_of as made_of
 from finder.process.program import runs_of
 from finder.seen.scales import UTC
 from tests.common import PROGRAM, YEAR, stand_in
@@ -16,7 +17,7 @@ ECLIPTIC = {"observer": "earth", "frame": "ecl"}
 # What makes undecided windows of the certain ones of apsides.
 UNDECIDED = f"""\
 {PROGRAM} "$@" | awk '/^FIND/ {{ apsis = $2 == "apsis" }}
-    apsis && $1 == "C" {{ print "U", $2, $3; count++; next }}
+    apsis && ($1 == "C" || $1 == "U") {{ print "U", $2, $3; count++; next }}
     apsis && $1 == "END" {{ print "END certain 0 undecided", count + 0; next }}
     {{ print }}'
 """
@@ -31,16 +32,20 @@ done
 """
 
 
+# The groups that an almanac without a place has.
+CENTRE = tuple(group for group in finder.Group if group.value not in ("days", "weeks"))
+
+
 def has(name):
     return importlib.util.find_spec(name) is not None
 
 
-def almanac_of(year, groups=tuple(finder.Group), files=(YEAR,), program=PROGRAM, progress=None):
+def almanac_of(year, groups=CENTRE, files=(YEAR,), program=PROGRAM, progress=None):
     """The almanac of a year of UTC."""
     span = CLOCK.start_of(year), CLOCK.start_of(year + 1)
     names = [os.fspath(file) for file in files]
     machine = Machine(names, runs_of(program, None), 1, progress)
-    return almanac_of_seconds(machine, *span, f"Almanac {year}", groups)
+    return made_of(machine, Wanted(f"Almanac {year}", *span, groups))
 
 
 @functools.lru_cache(maxsize=None)

@@ -17,14 +17,21 @@ import finder
 from finder import Event, Group, Status
 from finder.almanac import eclipses
 from finder.almanac.almanac import recipes, search_count
-from finder.almanac.eclipses import SolarEclipses, Transits
+from finder.almanac.eclipses import Transits
 from finder.almanac.entries import EclipseKind
-from finder.almanac.events import planets
-from finder.almanac.observed import Observed
 from finder.almanac.shadows import kind_of
-from tests.almanacs import ECLIPTIC, almanac_of, almanac_of_2000, has, moment, undecided_moon, utc, wide_moon
+from finder.almanac.texts import Text, Texts
+from finder.process.program import runs_of
+from tests.almanacs import CENTRE, almanac_of, almanac_of_2000, has, moment, undecided_moon, utc, wide_moon
 from tests.common import PROGRAM, YEAR, InFolder, command, split_year, stand_in
 
+# What makes undecided windows of the certain ones at a second.
+UNDECIDED_AT_A_SECOND = f"""\
+{PROGRAM} "$@" | awk '/^FIND/ {{ fine = / tick 1000 / }}
+    !fine && ($1 == "C" || $1 == "U") {{ print "U", $2, $3; count++; next }}
+    !fine && $1 == "END" {{ print "END certain 0 undecided", count + 0; next }}
+    {{ print }}'
+"""
 PHASES = {
     Event.NEW_MOON: "0106 1814,0205 1303,0306 0517,0404 1812,0504 0412,0602 1214,0701 1920,0731 0225,0829 1019,"
     "0927 1953,1027 0758,1125 2311,1225 1722",
@@ -99,13 +106,36 @@ class Year(unittest.TestCase):
         self.assertIn("jupiter 0929", stations)
 
     def test_all_windows_are_the_commands(self):
-        """The windows of entries are those that the command prints, all that are seen in the year."""
+        """The windows of entries are those that the command prints of the text of what is seen, all of the year. The time
+        of each is within its window."""
         found = almanac_of_2000()
         self.assertEqual({entry.status for entry in found.entries}, {Status.CERTIFIED})
-        words = "--target mercury --observer earth --frame ecl --kind station".split()
-        printed = [line.split()[2] for line in command("find", *words, YEAR).splitlines() if line.startswith("C ")]
+        sky = finder.Ephemeris.open(YEAR).sky(None, "1999-12-31", "2001-01-02", axes="ecliptic")
+        words = "--target mercury --observer earth --kind station".split()
+        printed = [line.split()[2] for line in command("find", *words, *sky.files).splitlines() if line.startswith("C ")]
         held = [each for each in found.of(Event.TURNS_DIRECT, Event.TURNS_RETROGRADE) if each.bodies == ("mercury",)]
         self.assertEqual([entry.contacts[0].window.text() for entry in held], printed)
+        for entry in found.entries:
+            for contact in entry.contacts:
+                if contact.window is not None:
+                    first, last, _ = (contact.window.first - 1, contact.window.last, None)
+                    self.assertLessEqual(first / contact.window.tick, contact.seconds)
+                    self.assertLessEqual(contact.seconds, last / contact.window.tick)
+
+    def test_times_are_those_of_the_solver(self):
+        """What `seen` solves in doubles around the geometric windows is the almanac's own time, within 0.05 seconds."""
+        found = almanac_of_2000()
+        rows = (
+            (finder.conjunctions(YEAR, "moon", "sun", observer="earth", frame="ecl"), (Event.NEW_MOON,), "moon"),
+            (finder.stations(YEAR, "mars", observer="earth", frame="ecl"), (Event.TURNS_DIRECT,), "mars"),
+            (finder.oppositions(YEAR, "jupiter", "sun", observer="earth", frame="ecl"), (Event.OPPOSITION,), "jupiter"),
+            (finder.conjunctions(YEAR, "venus", "jupiter", observer="earth"), (Event.MEETING,), "venus"),
+        )
+        for windows, events, body in rows:
+            seen = finder.seen(windows, YEAR).seconds
+            for entry in found.of(*events):
+                if entry.bodies[0] == body and entry.bodies[-1] in (body, windows.asked["second"]):
+                    self.assertLess(abs(seen - entry.seconds).min(), 0.05, entry.name)
 
     def test_groups_and_progress(self):
         steps = []
@@ -133,55 +163,50 @@ class Unproved(InFolder):
     def test_an_undecided_window_keeps_its_entry(self):
         found = undecided_moon(self.folder)
         whole = [entry for entry in almanac_of_2000().entries if entry.group is Group.MOON]
-        self.assertEqual([entry.name for entry in found.entries], [entry.name for entry in whole])
-        for entry in found.entries:
-            apsis = entry.event in (Event.PERIGEE, Event.APOGEE)
-            self.assertIs(entry.status, Status.UNDECIDED if apsis else Status.CERTIFIED)
+        self.assertEqual(len(found.entries), len(whole))
+        for entry, other in zip(found.entries, whole):
+            is_apsis = other.event in (Event.PERIGEE, Event.APOGEE)
+            self.assertIs(entry.status, Status.UNDECIDED if is_apsis else Status.CERTIFIED)
+            self.assertEqual(entry.name, "Moon at perigee or Moon at apogee" if is_apsis else other.name)
+            self.assertAlmostEqual(entry.seconds, other.seconds, delta=1e-6)
 
     def test_a_wide_window_says_what_may_be_in_it(self):
         found = wide_moon(self.folder)
-        names = {entry.name for entry in found.of(Event.UNDECIDED)}
-        self.assertLessEqual({"New moon", "Full moon", "Moon at perigee or Moon at apogee"}, names)
-        for entry in found.of(Event.UNDECIDED):
+        undecided = [entry for entry in found.entries if entry.status is Status.UNDECIDED]
+        self.assertLessEqual({"New moon", "Full moon"}, {entry.name for entry in undecided})
+        self.assertTrue(any(" or " in entry.name for entry in undecided))
+        for entry in undecided:
             (contact,) = entry.contacts
-            self.assertIsNone(contact.seen)
-            self.assertLess(contact.window.first - 1, entry.seconds)
-            self.assertLess(entry.seconds, contact.window.last)
-            self.assertIn("undecided", contact.reason)
+            tick = contact.window.tick
+            self.assertLess((contact.window.first - 1) / tick, entry.seconds)
+            self.assertLess(entry.seconds, contact.window.last / tick)
 
-    def test_a_window_without_a_time_has_its_own(self):
-        """The numbers that are read end before the second station of Mercury, so that it is not seen in them."""
-        recipe = planets()[0]
-        found = recipe.searches[0].run([str(YEAR)], start="2000-01-01", end="2000-04-01", program=PROGRAM)
-        series = finder.Series(YEAR, end=moment("0220 0000"))
-        entries = recipe.entries(Observed(series), [found])
-        self.assertEqual([entry.status for entry in entries], [Status.CERTIFIED, Status.UNSOLVED])
-        self.assertEqual(entries[1].name, "Mercury stationary, turns direct")
-        self.assertAlmostEqual(entries[1].seconds, found[1].last, delta=1)
-        self.assertIn("files end", entries[1].contacts[0].reason)
+    def test_what_is_undecided_at_a_second_is_asked_again(self):
+        """A program whose windows at a second are all undecided: those at a millisecond stand in their place."""
+        program = stand_in(self.folder, UNDECIDED_AT_A_SECOND)
+        found = almanac_of(2000, (Group.SEASONS,), program=program)
+        whole = [entry for entry in almanac_of_2000().entries if entry.group is Group.SEASONS]
+        self.assertEqual([entry.name for entry in found.entries], [entry.name for entry in whole])
+        for entry, other in zip(found.entries, whole):
+            self.assertIs(entry.status, Status.CERTIFIED)
+            self.assertEqual(entry.contacts[0].window.tick, 1_000)
+            self.assertEqual(entry.seconds, other.seconds)
 
     def test_an_eclipse_at_the_end_of_the_files(self):
-        """The numbers end between the greatest of a solar eclipse and its end, at 12:49 and 14:43, and before both."""
-        recipe = SolarEclipses()
-        span = {"start": "2000-02-01", "end": "2000-02-10", "program": PROGRAM}
-        found = [search.run([str(YEAR)], **span) for search in recipe.searches]
-        for end, greatest in (("0205 1330", "0205 1249"), ("0205 1200", "0205 1159")):
-            series = finder.Series(YEAR)
-            series.end = moment(end)
-            (entry,) = recipe.entries(Observed(series), found)
-            self.assertIs(entry.status, Status.UNSOLVED)
-            self.assertEqual([contact.seen is None for contact in entry.contacts], [False, False, True])
-            self.assertLess(abs(entry.seconds - moment(greatest)), 61)
-            self.assertTrue(np.isfinite(entry.numbers.gamma))
+        """The span ends between the greatest of a solar eclipse and its end, at 12:49 and 14:43: the whole is there, as a
+        day more is searched."""
+        found = finder.almanac(YEAR, "2000-02-05", "2000-02-05T13:30:00", groups="eclipses", program=PROGRAM)
+        self.assertEqual([contact.name for contact in found.entries[0].contacts], ["P1", "greatest", "P4"])
+        self.assertLess(abs(found.entries[0].seconds - moment("0205 1249")), 90)
 
     def test_a_transit(self):
         """Mercury passes the Sun at 3.7 degrees on 1 March (Astronomical Phenomena): such a radius touches it."""
         recipe = Transits("mercury")
         with mock.patch.dict(eclipses.RADII, mercury=5_690_000.0):
             searches = recipe.searches
-        files = [str(YEAR)]
-        found = [each.run(files, start="2000-01-01", end="2000-04-01", program=PROGRAM) for each in searches]
-        (entry,) = recipe.entries(Observed(finder.Series(YEAR)), found)
+        # (the noons of 1 January and of 1 April)
+        texts = Texts(finder.Ephemeris.open(YEAR), (0, 91 * 86_400), runs_of(PROGRAM, None))
+        (entry,) = recipe.entries(texts, [texts.found(each) for each in searches])
         names = [contact.name for contact in entry.contacts]
         self.assertEqual((names, entry.bodies), (["I", "greatest", "IV"], ("mercury",)))
         self.assertEqual((utc(entry.seconds)[:4], round(entry.numbers.least_angle_arcsec / 3_600, 1)), ("0301", 3.7))
@@ -202,18 +227,19 @@ class Refused(InFolder):
         said = "the files hold 1999-12-24T00:00:00 to 2001-01-11T00:00:00 .TDB., and not all of 2000-06-01T00:00:00 to "
         with self.assertRaisesRegex(finder.SpanNotHeld, said):
             finder.almanac(YEAR, "2000-06-01", "2001-06-01", program=self.watched())
-        self.assertEqual(self.asked(), ["check"])
+        self.assertEqual(self.asked(), [])
 
-    def test_files_without_a_header_and_blocks_in_the_wrong_order(self):
-        header, files = split_year(self.folder)
-        with self.assertRaises(finder.FileFault) as caught:
+    def test_files_without_a_header(self):
+        _, files = split_year(self.folder)
+        with self.assertRaisesRegex(ValueError, "header"):
             finder.almanac(files, "2000-01-01", "2000-03-01", program=self.watched())
-        self.assertEqual(caught.exception.file, str(files[0]))
-        turned = self.folder / "turned.405"
-        turned.write_bytes(files[1].read_bytes() + files[0].read_bytes())
-        with self.assertRaisesRegex(finder.WrongFiles, "turned.405 has blocks that are not in order of time"):
-            finder.almanac([header, turned], "2000-05-01", "2000-06-01", program=self.watched())
-        self.assertEqual(self.asked(), ["check"])
+        self.assertEqual(self.asked(), [])
+
+    def test_groups_of_a_place(self):
+        for group in ("days", "weeks"):
+            with self.assertRaisesRegex(ValueError, "is of a place"):
+                finder.almanac(YEAR, "2000-01-01", "2000-03-01", groups=group, program=self.watched())
+        self.assertEqual(self.asked(), [])
 
     def test_no_erfa(self):
         with mock.patch.dict(sys.modules, erfa=None), self.assertRaisesRegex(finder.NoErfa, "pyerfa"):
@@ -221,7 +247,7 @@ class Refused(InFolder):
         self.assertEqual(self.asked(), [])
 
     def test_a_search_that_fails(self):
-        program = stand_in(self.folder, f'[ "$1" = check ] && exec {PROGRAM} "$@"\necho "finder: 9" >&2\nexit 9')
+        program = stand_in(self.folder, 'echo "finder: 9" >&2\nexit 9')
         with self.assertRaises(finder.TooManyLeaves):
             finder.almanac(YEAR, "2000-01-01", "2000-03-01", program=program)
 
@@ -243,8 +269,18 @@ class Kinds(unittest.TestCase):
             self.assertIs(kind_of(off, umbra), kind, (off, umbra))
 
     def test_each_group_has_recipes(self):
-        self.assertEqual({recipe.group for recipe in recipes(Group)}, set(Group))
-        self.assertEqual([search.options for search in recipes([Group.SEASONS])[0].searches], [ECLIPTIC])
+        self.assertEqual({recipe.group for recipe in recipes(Group)}, set(CENTRE))
+        self.assertEqual([search.text for search in recipes([Group.SEASONS])[0].searches], [Text.ECLIPTIC])
+        # (76 searches of the Earth's centre, and those of Pluto and of four stars)
+        self.assertEqual((search_count(Group), search_count(Group, pluto=True)), (76, 88))
+        self.assertEqual(search_count(Group, stars=True), 84)
+
+    def test_radii_have_no_dirt(self):
+        """No radius of a search has the last digits of a sum of doubles."""
+        for recipe in recipes(Group, pluto=True, stars=True):
+            for search in recipe.searches:
+                for radius in search.options.get("radii", ()):
+                    self.assertLessEqual(len(radius), 10, radius)
 
 
 if __name__ == "__main__":

@@ -75,9 +75,10 @@ class Words(InFolder):
         turned.write_bytes(files[1].read_bytes() + files[0].read_bytes())
         rows = {
             ("2001", str(YEAR)): "finder: the files hold 1999-12-24T00:00:00 to 2001-01-11T00:00:00 (TDB), and not ",
-            ("2000", "no-file"): "finder: read fault no-file\nfinder: likely: (1) no file has this name",
-            ("2000", str(files[0])): f"finder: file {files[0]} line 1: 10 FirstLine\nfinder: likely: (1) the first ",
-            ("2000", str(header), str(turned)): f"finder: {turned} has blocks that are not in order of time: the days ",
+            ("2000", "no-file"): "finder: [Errno 2] No such file or directory: 'no-file'",
+            ("2000", str(files[0])): f"finder: {files[0]} has blocks and no header: name the header of its series too",
+            ("2000", str(header), str(turned)): "finder: the files hold 1999-12-24T00:00:00 to 2000-10-07T00:00:00 (TDB)",
+            ("2000", str(YEAR), "--only", "days"): "finder: the group days is of a place: name one",
             ("2000", str(YEAR), "--program", "/no/finder"): "finder: ",
         }
         for words, said in rows.items():

@@ -78,6 +78,7 @@ def events_of(text):
     made = []
     for line in whole:
         name, _, value = line.partition(":")
+        name = name.partition(";")[0]
         if line == "BEGIN:VEVENT":
             made.append({})
         elif made and line not in ("END:VEVENT", "END:VCALENDAR"):
@@ -91,7 +92,7 @@ def sharp():
     """An almanac of one entry, whose texts are to be escaped."""
     times = np.array([0.0, 86_400.0])
     curves = Curves(times, times + 4e5, {}, ())
-    contact = finder.Contact("new moon", finder.Window(3_600, 3_600, "rise"), f"FIND {SHARP}", 3_600.5)
+    contact = finder.Contact("new moon", finder.Window(3_600, 3_600, "rise"), f"FIND {SHARP}", 3_599.5)
     entry = finder.Entry(Group.MOON, Event.NEW_MOON, SHARP, ("moon",), 3_600.5, (contact,), Numbers(), SHARP)
     return Almanac(SHARP, 0.0, 86_400.0, (entry,), (Group.MOON,), 1, (), 0, 86_400, curves)
 
@@ -110,7 +111,7 @@ class Pages(InFolder):
         at = [CLOCK.minute(entry.seconds).isoformat() for entry in entries]
         self.assertEqual(made.times[-len(at) :], at)
         said = "".join(made.texts)
-        for words in ("Proved", "Computed in doubles, and not proved", "2000-01-21 02:06:02", "U2 totality begins"):
+        for words in ("Proved", "Computed in doubles, and not proved", "2000-01-21 02:05:29", "U2 totality begins"):
             self.assertIn(words, said)
 
     @unittest.skipUnless(has("html5lib"), "no html5lib")
@@ -144,7 +145,10 @@ class Pages(InFolder):
             self.assertLessEqual({"DTSTAMP", "SUMMARY", "DESCRIPTION", "UID"}, set(event))
         berlin = finder.Clock(Scale.UTC, BERLIN, "Europe/Berlin")
         self.assertEqual(finder.page(found, "ics", berlin), text)
-        self.assertIn("Certified window (TDB): 2000-01-06T18:15:27", text)
+        self.assertIn("Certified window (TDB): 2000-01-06T18:14:43", text)
+        whole = text.replace("\r\n ", "")
+        for name in ("P1", "U1", "U2", "greatest", "U3", "U4", "P4"):
+            self.assertRegex(whole, rf"Certified window of {name} \(TDB\): 2000-01-21T0\d")
 
     @unittest.skipUnless(has("icalendar"), "no icalendar")
     def test_calendar_by_icalendar(self):
@@ -161,12 +165,14 @@ class Pages(InFolder):
         contacts = [(entry, contact) for entry in found.entries for contact in entry.contacts]
         self.assertEqual(len(rows), len(contacts))
         for row, (entry, contact) in zip(rows, contacts):
-            self.assertAlmostEqual(float(row["seen_tdb_s"]), contact.seen, delta=6e-4)
-            self.assertEqual((row["name"], row["status"], row["reason"]), (entry.name, "certified", ""))
+            self.assertAlmostEqual(float(row["seen_tdb_s"]), contact.seconds, delta=6e-4)
+            status = "computed" if contact.window is None else "certified"
+            self.assertEqual((row["name"], row["status"]), (entry.name, status))
+            self.assertRegex(row["seen_utc"], r"^2\d{3}-\d\d-\d\dT\d\d:\d\d:\d\d\.\d{3}\+00:00$|^1999-12-31")
             window = contact.window
             self.assertEqual(row["certified_last_tdb"], "" if window is None else window.text())
         new = next(row for row in rows if row["event"] == "new moon")
-        self.assertEqual(new["certified_first_tdb"], "2000-01-06T18:15:27")  # README.md
+        self.assertEqual(new["certified_first_tdb"], "2000-01-06T18:14:43")
         whole = json.loads(finder.page(found, "json"))
         self.assertEqual([each["name"] for each in whole["events"]], [entry.name for entry in found.entries])
         eclipse = next(each for each in whole["events"] if each["event"] == "lunar eclipse")
@@ -177,7 +183,7 @@ class Pages(InFolder):
     def test_text(self):
         lines = finder.page(almanac_of_2000()).splitlines()
         line = next(line for line in lines if "New moon" in line)
-        self.assertRegex(line, r"^  06 Thu 18:14  New moon +404,\d{3} km +2000-01-06T18:15:27$")
+        self.assertRegex(line, r"^  06 Thu 18:14  New moon +404,\d{3} km +2000-01-06T18:14:43$")
         self.assertEqual(sum(line.endswith(" 2000") for line in lines), 12)
         self.assertLess(max(map(len, lines)), 125)
 

@@ -9,18 +9,16 @@ nearer body grows and that of the Sun shrinks. So the radii of these searches ar
 from __future__ import annotations
 
 from collections.abc import Callable, Sequence
-from dataclasses import dataclass
+from dataclasses import dataclass, replace
 
 import numpy as np
 
 from .. import spans
-from ..reports.windows import Windows
-from ..searches.search import occultations, separation_extremes
 from ..seen.roots import illinois
 from ..seen.vectors import Floats, angle
 from .entries import PLANETS, Contact, EclipseKind, Entry, Event, Group, Numbers
-from .names import INNER
-from .observed import Observed, Recipe, Search, by_turn
+from .names import INNER, Pair
+from .texts import Found, Recipe, Search, Text, Texts
 from .shadows import EARTH, MOON, SHADOW, SUN, moon_shadow, moon_sizes, shadow_axis
 
 # Mean radii in km (docs/RECIPES.md).
@@ -32,26 +30,32 @@ RADII = {
     "saturn": 58_232.0,
     "uranus": 25_362.0,
     "neptune": 24_622.0,
+    "pluto": 1_188.3,
 }
+# What is said of a moment without a search.
+COMPUTED = "computed in doubles"
 # The radius in km within which the axis of the Moon's shadow meets the Earth (docs/RECIPES.md).
 CENTRAL = 6_350.0
 # Contacts of one event are less than half a day apart; the greatest is within an hour of them, or two where there is
-# one contact alone, and within the files, at whose start light is on its way for up to half an hour.
+# one contact alone.
 APART = spans.DAY / 2
 AROUND = 3_600.0
-LIGHT = 1_800.0
 # The seconds on each side by which a change is taken, and how many times are looked at for a least value.
 STEP = 30.0
 GRID = 241
 
 
-def _touches(target: str, second: str, radii: tuple[float, float], observer: str, kind: str = "any") -> Search:
-    return Search(occultations, (target, second, radii), {"observer": observer, "kind": kind})
+def _touches(
+    target: str, second: str, radii: tuple[float, float], names: Pair, observer: str = "earth", kind: str = "any"
+) -> Search:
+    # (a sum of radii has float dirt in its last digits, which would stand in the request)
+    options = {"observer": observer, "radii": tuple(f"{radius:.10g}" for radius in radii)}
+    return Search(Text.EQUATOR, kind, target, second, options, names)
 
 
 def _least(target: str, observer: str) -> Search:
     """The least angles between a body and the Sun."""
-    return Search(separation_extremes, (target, "sun"), {"observer": observer, "dir": "fall"})
+    return Search(Text.EQUATOR, "sepext", target, "sun", {"observer": observer, "dir": "fall"}, ("", "greatest"))
 
 
 def _groups(contacts: list[Contact]) -> list[list[Contact]]:
@@ -69,12 +73,12 @@ def _ordered(group: list[Contact], greatest: Contact) -> tuple[Contact, ...]:
     return tuple(sorted([*group, greatest], key=lambda each: each.seconds))
 
 
-def _around(observed: Observed, group: list[Contact]) -> tuple[float, float]:
-    """The times about an event, within the files; half of it may be missing at their end."""
+def _around(texts: Texts, group: list[Contact]) -> tuple[float, float]:
+    """The times about an event, within the texts; half of it may be missing at their end."""
     low, high = group[0].seconds - AROUND, group[-1].seconds + AROUND
     if len(group) < 2:
         low, high = low - AROUND, high + AROUND
-    return max(low, observed.series.start + LIGHT), min(high, observed.series.end - 2 * STEP)
+    return max(low, texts.span[0] + STEP), min(high, texts.span[1] - STEP)
 
 
 def _lowest(function: Callable[[Floats], Floats], low: float, high: float) -> float:
@@ -91,17 +95,31 @@ def _lowest(function: Callable[[Floats], Floats], low: float, high: float) -> fl
     return float(illinois(change, *ends, *(change(end) for end in ends))[0])
 
 
-def _greatest(observed: Observed, least: list[Contact], group: list[Contact], body: str, observer: str) -> Contact:
-    """The least angle between a body and the Sun: of its window, or where no time was found for that, in doubles."""
-    low, high = _around(observed, group)
-    inside = [each for each in least if each.seen is not None and low <= each.seconds <= high]
+def _greatest(texts: Texts, least: list[Contact], group: list[Contact], body: str) -> Contact:
+    """The least angle between a body and the Sun: of its window, or where it has none in the span, in doubles."""
+    low, high = _around(texts, group)
+    inside = [each for each in least if low <= each.seconds <= high]
     if inside:
         return inside[0]
 
     def apart(at: Floats) -> Floats:
-        return angle(observed.at(body, at, observer), observed.at("sun", at, observer))
+        return angle(texts.places(body, at), texts.places("sun", at))
 
-    return Contact("greatest", None, "", observed.arrival(_lowest(apart, low, high), observer))
+    return Contact("greatest", None, "", _lowest(apart, low, high), COMPUTED)
+
+
+def _moon_greatest(texts: Texts, least: list[Contact], group: list[Contact]) -> Contact:
+    """The greatest of a lunar eclipse: the least angle between Earth and Sun from the Moon, of its window or in doubles."""
+    low, high = _around(texts, group)
+    inside = [each for each in least if low <= each.seconds <= high]
+    if inside:
+        return inside[0]
+
+    def apart(at: Floats) -> Floats:
+        moon = texts.places("moon", at)
+        return angle(-moon, texts.places("sun", at) - moon)
+
+    return Contact("greatest", None, "", _lowest(apart, low, high), COMPUTED)
 
 
 @dataclass(frozen=True)
@@ -114,32 +132,32 @@ class LunarEclipses:
     def searches(self) -> tuple[Search, ...]:
         """The penumbra, the umbra, totality, and the least angle."""
         return (
-            _touches("earth", "sun", (SHADOW + MOON, SUN - MOON), "moon"),
-            _touches("earth", "sun", (SHADOW + MOON, SUN + MOON), "moon", "full"),
-            _touches("earth", "sun", (SHADOW - MOON, SUN - MOON), "moon", "full"),
+            _touches("earth", "sun", (SHADOW + MOON, SUN - MOON), ("P1", "P4"), "moon"),
+            _touches("earth", "sun", (SHADOW + MOON, SUN + MOON), ("U1", "U4"), "moon", "full"),
+            _touches("earth", "sun", (SHADOW - MOON, SUN - MOON), ("U2", "U3"), "moon", "full"),
             _least("earth", "moon"),
         )
 
-    def entries(self, observed: Observed, found: Sequence[Windows]) -> list[Entry]:
+    def entries(self, texts: Texts, found: Sequence[Found]) -> list[Entry]:
         """An entry for each eclipse."""
-        labels = by_turn("P1", "P4"), by_turn("U1", "U4"), by_turn("U2", "U3"), by_turn("", "greatest")
-        of_search = [observed.contacts(each, label, arrival="earth") for each, label in zip(found, labels)]
+        of_search = [each.contacts for each in found]
         least = of_search.pop()
         groups = _groups([contact for contacts in of_search for contact in contacts])
-        return [self._entry(observed, group, _greatest(observed, least, group, "earth", "moon")) for group in groups]
+        return [self._entry(texts, group, _moon_greatest(texts, least, group)) for group in groups]
 
-    def _entry(self, observed: Observed, group: list[Contact], greatest: Contact) -> Entry:
+    def _entry(self, texts: Texts, group: list[Contact], greatest: Contact) -> Entry:
         have = {each.name for each in group}
         total, partial = bool(have & {"U2", "U3"}), bool(have & {"U1", "U4"})
         kind = EclipseKind.TOTAL if total else EclipseKind.PARTIAL if partial else EclipseKind.PENUMBRAL
         at = np.array([greatest.seconds])
-        sizes = moon_sizes(observed.at("moon", at), observed.at("sun", at))
+        sizes = moon_sizes(texts.places("moon", at), texts.places("sun", at))
         numbers = Numbers(
             kind=kind, magnitude=round(sizes.umbral, 4), penumbral_magnitude=round(sizes.penumbral, 4)
         )
         size = sizes.penumbral if kind is EclipseKind.PENUMBRAL else sizes.umbral
         every = _ordered(group, greatest)
-        name, text = f"Lunar eclipse, {kind.value}", f"magnitude {size:.3f}"
+        name = f"Lunar eclipse, {kind.value}"
+        text = f"{'penumbral ' if kind is EclipseKind.PENUMBRAL else ''}magnitude {size:.3f}"
         return Entry(self.group, Event.LUNAR_ECLIPSE, name, ("moon",), greatest.seconds, every, numbers, text)
 
 
@@ -153,23 +171,21 @@ class SolarEclipses:
     def searches(self) -> tuple[Search, ...]:
         """The penumbra on the Earth, and the axis of the shadow."""
         return (
-            _touches("moon", "sun", (MOON + EARTH, SUN - EARTH), "earth"),
-            _touches("moon", "sun", (CENTRAL, 0.0), "earth"),
+            _touches("moon", "sun", (MOON + EARTH, SUN - EARTH), ("P1", "P4")),
+            _touches("moon", "sun", (CENTRAL, 0.0), ("central begins", "central ends")),
         )
 
-    def entries(self, observed: Observed, found: Sequence[Windows]) -> list[Entry]:
+    def entries(self, texts: Texts, found: Sequence[Found]) -> list[Entry]:
         """An entry for each eclipse."""
-        labels = by_turn("P1", "P4"), by_turn("central begins", "central ends")
-        contacts = [each for rows, label in zip(found, labels) for each in observed.contacts(rows, label)]
-        return [self._entry(observed, group) for group in _groups(contacts)]
+        return [self._entry(texts, group) for group in _groups([each for rows in found for each in rows.contacts])]
 
-    def _entry(self, observed: Observed, group: list[Contact]) -> Entry:
+    def _entry(self, texts: Texts, group: list[Contact]) -> Entry:
         def off(at: Floats) -> Floats:
-            return shadow_axis(observed.at("moon", at), observed.at("sun", at)).off
+            return shadow_axis(texts.places("moon", at), texts.places("sun", at)).off
 
-        time = _lowest(off, *_around(observed, group))
+        time = _lowest(off, *_around(texts, group))
         at = np.array([time])
-        made = moon_shadow(shadow_axis(observed.at("moon", at), observed.at("sun", at)))
+        made = moon_shadow(shadow_axis(texts.places("moon", at), texts.places("sun", at)))
         is_partial = made.kind is EclipseKind.PARTIAL
         numbers = Numbers(
             kind=made.kind,
@@ -178,7 +194,7 @@ class SolarEclipses:
             magnitude=round(made.magnitude, 4) if is_partial else None,
         )
         text = (f"magnitude {made.magnitude:.3f}, " if is_partial else "") + f"gamma {made.gamma:+.3f}"
-        every = _ordered(group, Contact("greatest", None, "", time))
+        every = _ordered(group, Contact("greatest", None, "", time, COMPUTED))
         name = f"Solar eclipse, {made.kind.value}"
         return Entry(self.group, Event.SOLAR_ECLIPSE, name, ("sun", "moon"), time, every, numbers, text)
 
@@ -194,21 +210,20 @@ class Transits:
     def searches(self) -> tuple[Search, ...]:
         """Outer touches, inner touches, and the least angle."""
         radii = RADII[self.planet], SUN
-        outer, inner = (_touches(self.planet, "sun", radii, "earth", kind) for kind in ("any", "annular"))
+        outer = _touches(self.planet, "sun", radii, ("I", "IV"))
+        inner = _touches(self.planet, "sun", radii, ("II", "III"), kind="annular")
         return outer, inner, _least(self.planet, "earth")
 
-    def entries(self, observed: Observed, found: Sequence[Windows]) -> list[Entry]:
+    def entries(self, texts: Texts, found: Sequence[Found]) -> list[Entry]:
         """An entry for each transit."""
-        labels = by_turn("I", "IV"), by_turn("II", "III"), by_turn("", "greatest")
-        of_search = [observed.contacts(each, label) for each, label in zip(found, labels)]
+        of_search = [each.contacts for each in found]
         least = of_search.pop()
         groups = _groups([contact for contacts in of_search for contact in contacts])
-        body = self.planet
-        return [self._entry(observed, group, _greatest(observed, least, group, body, "earth")) for group in groups]
+        return [self._entry(texts, group, _greatest(texts, least, group, self.planet)) for group in groups]
 
-    def _entry(self, observed: Observed, group: list[Contact], greatest: Contact) -> Entry:
+    def _entry(self, texts: Texts, group: list[Contact], greatest: Contact) -> Entry:
         at = np.array([greatest.seconds])
-        away = float(angle(observed.at(self.planet, at), observed.at("sun", at))[0]) * 3_600
+        away = float(angle(texts.places(self.planet, at), texts.places("sun", at))[0]) * 3_600
         name, text = f"Transit of {self.planet.capitalize()}", f"{away:.0f}″ from the Sun's centre"
         numbers, every = Numbers(least_angle_arcsec=round(away, 2)), _ordered(group, greatest)
         return Entry(self.group, Event.TRANSIT, name, (self.planet,), greatest.seconds, every, numbers, text)
@@ -216,35 +231,34 @@ class Transits:
 
 @dataclass(frozen=True)
 class Occultations:
-    """Times at which the Moon covers a planet somewhere on Earth."""
+    """Times at which the Moon covers a planet, or a star, somewhere on Earth."""
 
-    planet: str
+    body: str
+    text: Text = Text.EQUATOR
     group: Group = Group.MOON_MEETINGS
 
     @property
     def searches(self) -> tuple[Search, ...]:
         """A Moon that has the Earth's radius added."""
-        return (_touches("moon", self.planet, (MOON + EARTH, RADII[self.planet]), "earth"),)
+        touches = _touches("moon", self.body, (MOON + EARTH, RADII.get(self.body, 0.0)), ("begins", "ends"))
+        return (replace(touches, text=self.text),)
 
-    def entries(self, observed: Observed, found: Sequence[Windows]) -> list[Entry]:
+    def entries(self, texts: Texts, found: Sequence[Found]) -> list[Entry]:
         """An entry for each."""
-        contacts = observed.contacts(found[0], by_turn("begins", "ends"))
-        return [self._entry(observed, group) for group in _groups(contacts)]
+        return [self._entry(texts, group) for group in _groups(found[0].contacts)]
 
-    def _entry(self, observed: Observed, group: list[Contact]) -> Entry:
+    def _entry(self, texts: Texts, group: list[Contact]) -> Entry:
         time = sum(contact.seconds for contact in group) / len(group)
         at = np.array([time])
-        away = float(angle(observed.at(self.planet, at), observed.at("sun", at))[0])
-        name, text, numbers = f"Moon covers {self.planet.capitalize()}", "somewhere on Earth", Numbers()
-        # (the files may end within light time)
-        if np.isfinite(away):
-            text, numbers = f"{text}, {away:.0f}° from the Sun", Numbers(elongation_deg=round(away, 4))
-        bodies = "moon", self.planet
-        return Entry(self.group, Event.OCCULTATION, name, bodies, time, tuple(group), numbers, text)
+        away = float(angle(texts.places(self.body, at, self.text), texts.places("sun", at, self.text))[0])
+        name, text = f"Moon covers {self.body.capitalize()}", f"somewhere on Earth, {away:.0f}° from the Sun"
+        numbers = Numbers(elongation_deg=round(away, 4))
+        return Entry(self.group, Event.OCCULTATION, name, ("moon", self.body), time, tuple(group), numbers, text)
 
 
-def eclipses() -> list[Recipe]:
-    """All recipes of eclipses, transits, and planets that the Moon covers."""
+def eclipses(bodies: Sequence[str] = PLANETS, stars: Sequence[str] = ()) -> list[Recipe]:
+    """All recipes of eclipses, transits, and planets and stars that the Moon covers."""
     made: list[Recipe] = [LunarEclipses(), SolarEclipses()]
     made += [Transits(planet) for planet in INNER]
-    return made + [Occultations(planet) for planet in PLANETS]
+    made += [Occultations(planet) for planet in bodies]
+    return made + [Occultations(star, Text.STARS) for star in stars]

@@ -5,13 +5,16 @@ Times are seconds of TDB since J2000, 2000-01-01T12:00:00 TDB.
 
 from __future__ import annotations
 
+from collections.abc import Mapping
 from dataclasses import dataclass, field
 from enum import Enum
-from typing import Optional
+from typing import Any, Optional
 
-from .. import spans
 from ..public import public
+from ..reports.windows import Window
 from ..seen.vectors import Floats
+from ..sky.moments import Moments
+from ..sky.place import Place
 
 # The planets of an almanac, in order from the Sun; from Jupiter on they are the barycentres of their systems.
 PLANETS = ("mercury", "venus", "mars", "jupiter", "saturn", "uranus", "neptune")
@@ -27,6 +30,8 @@ class Group(Enum):
     PLANETS = "planets"
     MEETINGS = "meetings"
     MOON_MEETINGS = "moon-meetings"
+    DAYS = "days"
+    WEEKS = "weeks"
 
     @property
     def title(self) -> str:
@@ -41,6 +46,8 @@ GROUP_TITLES = {
     Group.PLANETS: "Planets",
     Group.MEETINGS: "Planets that meet",
     Group.MOON_MEETINGS: "The Moon and planets",
+    Group.DAYS: "Sun and Moon by day",
+    Group.WEEKS: "Planets by week",
 }
 
 
@@ -108,11 +115,11 @@ class EclipseKind(Enum):
 
 @public
 class Status(Enum):
-    """How far an entry is proved and solved."""
+    """How far a moment is proved: its window is certain, or undecided, or it is computed in doubles and has none."""
 
     CERTIFIED = "certified"
     UNDECIDED = "undecided"
-    UNSOLVED = "unsolved"
+    COMPUTED = "computed"
 
 
 @public
@@ -134,37 +141,39 @@ class Numbers:
     gamma: Optional[float] = None
     umbra_radii: Optional[float] = None
     least_angle_arcsec: Optional[float] = None
+    obscuration: Optional[float] = None
+    altitude_deg: Optional[float] = None
+    sun_altitude_deg: Optional[float] = None
 
 
 @public
 @dataclass(frozen=True)
 class Contact:
-    """A moment of an event: its window, whose search `request` is, and the time `seen` at which it is seen.
+    """A moment of an event: its window, whose search `request` is, and its time in `seconds`, which is the window's own.
 
-    The window is None for what no search is made for, as the greatest of a solar eclipse. `seen` is None where no time
-    was found near the window, and `reason` says why."""
+    `text` says what is searched: of what is seen, or of where bodies are. The window is None for what no search is made
+    for, as the greatest of a solar eclipse, whose time is computed in doubles. At a place `altitude` and `azimuth` in
+    degrees say where the body is then, without refraction, and `is_up` whether it is above the horizon."""
 
     name: str
-    window: Optional[spans.Window]
+    window: Optional[Window]
     request: str
-    seen: Optional[float]
-    reason: str = ""
+    seconds: float
+    text: str = ""
+    altitude: Optional[float] = None
+    azimuth: Optional[float] = None
 
     @property
-    def seconds(self) -> float:
-        """The time as it is seen; the middle of the window where there is none."""
-        if self.seen is not None:
-            return self.seen
-        if self.window is None:
-            raise ValueError(f"the contact {self.name!r} has neither a window nor a time")
-        return (self.window.first - 1 + self.window.last) / 2
+    def is_up(self) -> Optional[bool]:
+        """Whether the body is above the horizon of the place, lifted by 34' of refraction; None for the Earth's centre."""
+        return None if self.altitude is None else self.altitude > -34 / 60
 
     @property
     def status(self) -> Status:
-        """Whether its window is certain, and its time was found."""
-        if self.window is not None and self.window.turn is None:
-            return Status.UNDECIDED
-        return Status.CERTIFIED if self.seen is not None else Status.UNSOLVED
+        """Whether its window is certain."""
+        if self.window is None:
+            return Status.COMPUTED
+        return Status.UNDECIDED if self.window.turn is None else Status.CERTIFIED
 
 
 @public
@@ -184,9 +193,9 @@ class Entry:
 
     @property
     def status(self) -> Status:
-        """The worst of its contacts: undecided, or not solved."""
+        """The worst of its contacts: undecided where one is, certified where one is that and none is undecided."""
         have = {contact.status for contact in self.contacts}
-        return next((each for each in (Status.UNDECIDED, Status.UNSOLVED) if each in have), Status.CERTIFIED)
+        return next(each for each in (Status.UNDECIDED, Status.CERTIFIED, Status.COMPUTED) if each in have)
 
 
 @dataclass(frozen=True)
@@ -201,14 +210,32 @@ class Curves:
     retrograde_at_start: tuple[str, ...]
 
 
+@dataclass(frozen=True)
+class LocalYear:
+    """What a place sees in the span of an almanac, by its `sky`: the moments of the Sun (`sun`), of the Moon (`moon`) and
+    of each planet, sentences of what does not rise or set (`said`), what UT1 stands on (`rotation`), and by day the part
+    of the Moon's disc that is lit (`lit`, from 0 to 1, at `lit_times`)."""
+
+    place: Place
+    rotation: str
+    sun: Moments
+    moon: Moments
+    planets: Mapping[str, Moments]
+    said: tuple[str, ...]
+    lit_times: Floats
+    lit: Floats
+    searches: int
+    skies: tuple[Any, ...] = field(repr=False, compare=False, default=())
+
+
 @public
 @dataclass(frozen=True)
 class Almanac:
     """The entries of a span in order of time, from `start` and before `end`, and what they come from: the `groups` that
     were looked for, by so many `searches` of the `files`, from `first_searched` to `last_searched`.
 
-    An undecided window has an entry, which says so, and so has a certain one near which no time was found as it is
-    seen: its own time stands there. None is left out."""
+    An undecided window has an entry, which says so. None is left out. Of a place it has the `place`, its days and weeks,
+    and what UT1 stands on."""
 
     title: str
     start: float
@@ -220,6 +247,8 @@ class Almanac:
     first_searched: int
     last_searched: int
     curves: Curves = field(compare=False)
+    local: Optional[LocalYear] = field(compare=False, default=None)
+    bodies: tuple[str, ...] = PLANETS
 
     def __repr__(self) -> str:
         return f"<{self.title!r}: {len(self.entries)} entries of {self.searches} searches>"

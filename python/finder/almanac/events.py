@@ -8,13 +8,12 @@ from typing import Optional
 
 import numpy as np
 
-from ..reports.windows import Windows
-from ..searches.search import apsides, conjunctions, coordinate, oppositions, separation, separation_extremes, stations
+from ..ephemeris.series import Series
 from ..seen.values import AU
 from ..seen.vectors import Floats, angle, latitude, length, longitude, wrapped
 from .entries import PLANETS, Contact, Entry, Event, Group, Numbers, Side, Way
-from .names import INNER, names
-from .observed import Observed, Search
+from .names import INNER, Pair
+from .texts import Found, Search, Text, Texts
 
 # Angles from the Sun in degrees: within the first a body is lost in its glare, beyond the second it is up all night.
 GLARE, NIGHT = 12.0, 150.0
@@ -36,15 +35,6 @@ TITLES = {
 
 
 @dataclass(frozen=True)
-class Asked:
-    """What a search asked for."""
-
-    target: str
-    second: str
-    observer: str
-
-
-@dataclass(frozen=True)
 class Said:
     """The numbers of an event, and their text."""
 
@@ -52,8 +42,8 @@ class Said:
     text: str = ""
 
 
-# What is said of events that are seen at some times, all of them at once.
-Say = Callable[[Observed, Asked, Sequence[Event], Floats], Iterator[Said]]
+# What is said of the events of a search, all of them at once, at some times.
+Say = Callable[[Texts, Search, Sequence[Event], Floats], Iterator[Said]]
 
 
 @dataclass(frozen=True)
@@ -66,67 +56,72 @@ class Single:
     say: Say
     event: Optional[Event] = None
     title: str = ""
-    phases: bool = False
 
     @property
     def searches(self) -> tuple[Search, ...]:
         """The one search."""
         return (self.search,)
 
-    def entries(self, observed: Observed, found: Sequence[Windows]) -> list[Entry]:
+    def entries(self, texts: Texts, found: Sequence[Found]) -> list[Entry]:
         """An entry for each window."""
-        windows = found[0]
-        contacts = observed.contacts(windows, lambda turn: names(windows, turn=turn), phases=self.phases)
-        asked = Asked(*(windows.asked[role] for role in ("target", "second", "observer")))
-        solved = [contact for contact in contacts if contact.seen is not None]
-        at = np.array([contact.seconds for contact in solved], dtype=float)
-        said = dict(zip(solved, self.say(observed, asked, [self._event(each) for each in solved], at)))
-        either = self._either(windows, asked)
-        return [self._entry(asked, contact, said.get(contact, Said()), either) for contact in contacts]
+        contacts = found[0].contacts
+        at = np.array([contact.seconds for contact in contacts], dtype=float)
+        events = [self._event(each) for each in contacts]
+        said = self.say(texts, self.search, events, at) if contacts else iter(())
+        return [self._entry(*row) for row in zip(contacts, events, said)]
 
     def _event(self, contact: Contact) -> Event:
-        if contact.name == Event.UNDECIDED.value:
-            return Event.UNDECIDED
-        return self.event or Event(contact.name)
+        if contact.name != Event.UNDECIDED.value:
+            return self.event or Event(contact.name)
+        # (where both turns have one name, an undecided window has that)
+        return self.event or (Event(self._pair[0]) if len(set(self._pair)) == 1 else Event.UNDECIDED)
 
-    def _entry(self, asked: Asked, contact: Contact, said: Said, either: str) -> Entry:
-        event = self._event(contact)
-        title = either if event is Event.UNDECIDED else self._title(asked, event, said.numbers.side)
-        bodies = tuple(body for body in (asked.target, asked.second) if body not in ("-", "sun"))
+    @property
+    def _pair(self) -> Pair:
+        return self.search.pair
+
+    def _entry(self, contact: Contact, event: Event, said: Said) -> Entry:
+        title = self._either() if event is Event.UNDECIDED else self._title(event, said.numbers.side)
+        bodies = tuple(body for body in (self.search.target, self.search.second) if body is not None and body != "sun")
         return Entry(self.group, event, title, bodies, contact.seconds, (contact,), said.numbers, said.text)
 
-    def _title(self, asked: Asked, event: Event, side: Optional[Side]) -> str:
+    def _title(self, event: Event, side: Optional[Side]) -> str:
         title = self.title or TITLES.get(event, event.value[0].upper() + event.value[1:])
         where = "" if side is None else f" {side.value}"
-        return title.format(target=asked.target.capitalize(), second=asked.second.capitalize(), side=where)
+        second = (self.search.second or "").capitalize()
+        return title.format(target=self.search.target.capitalize(), second=second, side=where)
 
-    def _either(self, windows: Windows, asked: Asked) -> str:
-        """What an undecided window without a time may be."""
-        if self.event is not None or len(windows) == 0:
-            return self._title(asked, self.event or Event.UNDECIDED, None)
-        wanted = windows.asked["dir"]
-        turns = (np.full(len(windows), turn) for turn in ("rise", "fall") if wanted in ("any", turn))
-        events = (Event(names(windows, turn=turn)[0]) for turn in turns)
-        return " or ".join(dict.fromkeys(self._title(asked, event, None) for event in events))
+    def _either(self) -> str:
+        """What an undecided window may be."""
+        return " or ".join(dict.fromkeys(self._title(Event(name), None) for name in self._pair))
 
 
-def _moon_distance(observed: Observed, asked: Asked, events: Sequence[Event], at: Floats) -> Iterator[Said]:
-    for far in length(observed.geometric("moon", at)).tolist():
+def _sides(texts: Texts, body: str, at: Floats, text: Text) -> tuple[Floats, Floats]:
+    """The angles of a body from the Sun in degrees, and how far it is east of it in longitude."""
+    place, sun = (texts.places(each, at, text) for each in (body, "sun"))
+    if text is not Text.ECLIPTIC:
+        # (which side of the Sun a body is on does not depend on some arc seconds of the obliquity)
+        place, sun = Series.turned("ecl", place), Series.turned("ecl", sun)
+    return angle(place, sun), wrapped(longitude(place) - longitude(sun))
+
+
+def _moon_distance(texts: Texts, search: Search, events: Sequence[Event], at: Floats) -> Iterator[Said]:
+    for far in length(texts.geometric("moon", at)).tolist():
         yield Said(Numbers(distance_km=round(far, 1)), f"{far:,.0f} km")
 
 
-def _sun_distance(observed: Observed, asked: Asked, events: Sequence[Event], at: Floats) -> Iterator[Said]:
-    for far in (length(observed.geometric("sun", at)) / AU).tolist():
+def _sun_distance(texts: Texts, search: Search, events: Sequence[Event], at: Floats) -> Iterator[Said]:
+    for far in (length(texts.geometric("sun", at)) / AU).tolist():
         yield Said(Numbers(distance_au=round(far, 9)), f"{far:.6f} au")
 
 
-def _from_sun(observed: Observed, asked: Asked, events: Sequence[Event], at: Floats) -> Iterator[Said]:
+def _from_sun(texts: Texts, search: Search, events: Sequence[Event], at: Floats) -> Iterator[Said]:
     """The elongation of a planet, its side, and its distance."""
-    place, sun = (observed.at(body, at, frame="ecl") for body in (asked.target, "sun"))
-    east = wrapped(longitude(place) - longitude(sun)) > 0
-    for event, far, away, is_east in zip(events, length(place) / AU, angle(place, sun), east):
+    away_from_sun, ahead = _sides(texts, search.target, at, search.text)
+    distances = length(texts.geometric(search.target, at)) / AU
+    for event, far, away, is_east in zip(events, distances.tolist(), away_from_sun.tolist(), (ahead > 0).tolist()):
         side = Side.EAST if is_east else Side.WEST
-        numbers = Numbers(elongation_deg=round(float(away), 5), side=side, distance_au=round(float(far), 7))
+        numbers = Numbers(elongation_deg=round(away, 5), side=side, distance_au=round(far, 7))
         text = f"{away:.1f}° from the Sun, {far:.3f} au away"
         if event is Event.GREATEST_ELONGATION:
             text = f"{away:.1f}° {side.value} of the Sun, {side.sky}"
@@ -137,60 +132,59 @@ def _from_sun(observed: Observed, asked: Asked, events: Sequence[Event], at: Flo
         yield Said(replace(numbers, side=None) if alone else numbers, text)
 
 
-def _meeting(observed: Observed, asked: Asked, events: Sequence[Event], at: Floats) -> Iterator[Said]:
+def _meeting(texts: Texts, search: Search, events: Sequence[Event], at: Floats) -> Iterator[Said]:
     """How far the second body passes the target, on which side, and how far both are from the Sun."""
-    one, other, sun = (observed.at(body, at) for body in (asked.target, asked.second, "sun"))
-    second, first = (longitude(observed.at(body, at, frame="ecl")) for body in (asked.second, "sun"))
-    ahead = wrapped(second - first)
-    of = "the Moon" if asked.target == "moon" else asked.target.capitalize()
-    rows = angle(one, other), latitude(other) > latitude(one), angle(other, sun), ahead > 0
+    second = search.second or ""
+    one, other = (texts.places(body, at, search.text) for body in (search.target, second))
+    away_from_sun, ahead = _sides(texts, second, at, search.text)
+    of = "the Moon" if search.target == "moon" else search.target.capitalize()
+    rows = angle(one, other), latitude(other) > latitude(one), away_from_sun, ahead > 0
     for apart, is_north, away, is_east in zip(*(row.tolist() for row in rows)):
         way, side = Way.NORTH if is_north else Way.SOUTH, Side.EAST if is_east else Side.WEST
         sky = "near the Sun" if away < GLARE else "all night" if away > NIGHT else side.sky
         numbers = Numbers(separation_deg=round(apart, 5), second_is=way, elongation_deg=round(away, 4), side=side)
-        yield Said(numbers, f"{asked.second.capitalize()} {apart:.1f}° {way.value} of {of}, {sky}")
-
-
-EARTH = {"observer": "earth"}
-ECLIPTIC = {"observer": "earth", "frame": "ecl"}
+        yield Said(numbers, f"{second.capitalize()} {apart:.1f}° {way.value} of {of}, {sky}")
 
 
 def moon_and_seasons() -> list[Single]:
     """The phases, apsides and nodes of the Moon, the seasons, and the apsides of the Earth."""
     moon, seasons = Group.MOON, Group.SEASONS
-    quarters = Search(separation, ("moon", "sun"), {**EARTH, "cosine": 0})
+    files, ecliptic = Text.FILES, Text.ECLIPTIC
     return [
-        Single(moon, Search(conjunctions, ("moon", "sun"), ECLIPTIC), _moon_distance),
-        Single(moon, Search(oppositions, ("moon", "sun"), ECLIPTIC), _moon_distance),
-        Single(moon, quarters, _moon_distance, phases=True),
-        Single(moon, Search(apsides, ("moon",), EARTH), _moon_distance),
-        Single(moon, Search(coordinate, ("moon", "z"), ECLIPTIC), _moon_distance),
-        Single(seasons, Search(coordinate, ("sun", "x"), ECLIPTIC), _sun_distance),
-        Single(seasons, Search(coordinate, ("sun", "y"), ECLIPTIC), _sun_distance),
-        Single(seasons, Search(apsides, ("earth",), {"observer": "sun"}), _sun_distance),
+        Single(moon, Search(ecliptic, "conj", "moon", "sun"), _moon_distance),
+        Single(moon, Search(ecliptic, "oppo", "moon", "sun"), _moon_distance),
+        Single(moon, Search(Text.FLAT, "sep", "moon", "sun", {"ref": 0}), _moon_distance),
+        Single(moon, Search(files, "apsis", "moon", None, {"observer": "earth"}), _moon_distance),
+        Single(moon, Search(ecliptic, "coord", "moon", None, {"axis": "z", "ref": 0}), _moon_distance),
+        Single(seasons, Search(ecliptic, "coord", "sun", None, {"axis": "x", "ref": 0}), _sun_distance),
+        Single(seasons, Search(ecliptic, "coord", "sun", None, {"axis": "y", "ref": 0}), _sun_distance),
+        Single(seasons, Search(files, "apsis", "earth", None, {"observer": "sun"}), _sun_distance),
     ]
 
 
-def planets() -> list[Single]:
+def planets(bodies: Sequence[str] = PLANETS) -> list[Single]:
     """Stations, conjunctions with the Sun, oppositions and greatest elongations."""
     made = []
-    for planet in PLANETS:
-        elongations = Search(separation_extremes, (planet, "sun"), {**EARTH, "dir": "rise"})
-        far = elongations if planet in INNER else Search(oppositions, (planet, "sun"), ECLIPTIC)
-        near = Search(conjunctions, (planet, "sun"), ECLIPTIC)
-        station = Search(stations, (planet,), ECLIPTIC)
+    ecliptic = Text.ECLIPTIC
+    for planet in bodies:
+        elongations = Search(ecliptic, "sepext", planet, "sun", {"dir": "rise"})
+        far = elongations if planet in INNER else Search(ecliptic, "oppo", planet, "sun")
+        near = Search(ecliptic, "conj", planet, "sun")
+        station = Search(ecliptic, "station", planet)
         made += [Single(Group.PLANETS, search, _from_sun) for search in (station, near, far)]
     return made
 
 
-def meetings() -> list[Single]:
-    """Conjunctions of planets, and of the Moon with planets, in right ascension."""
-    event = Event.MEETING
+def meetings(bodies: Sequence[str] = PLANETS, stars: Sequence[str] = ()) -> list[Single]:
+    """Conjunctions of planets, and of the Moon with planets and stars, in right ascension of date."""
     made = []
-    for number, one in enumerate(PLANETS):
-        moon = Search(conjunctions, ("moon", one), EARTH)
-        made.append(Single(Group.MOON_MEETINGS, moon, _meeting, event, "Moon passes {second}"))
-        for other in PLANETS[number + 1 :]:
-            pair = Search(conjunctions, (one, other), EARTH)
-            made.append(Single(Group.MEETINGS, pair, _meeting, event, "{target} and {second} meet"))
-    return made
+    for number, one in enumerate(bodies):
+        made.append(_passes(Search(Text.EQUATOR, "conj", "moon", one)))
+        for other in bodies[number + 1 :]:
+            pair = Search(Text.EQUATOR, "conj", one, other)
+            made.append(Single(Group.MEETINGS, pair, _meeting, Event.MEETING, "{target} and {second} meet"))
+    return made + [_passes(Search(Text.STARS, "conj", "moon", star)) for star in stars]
+
+
+def _passes(search: Search) -> Single:
+    return Single(Group.MOON_MEETINGS, search, _meeting, Event.MEETING, "Moon passes {second}")

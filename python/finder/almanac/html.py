@@ -14,7 +14,7 @@ from .entries import Almanac, Contact, Entry, Event, Group, Status
 from .frame import MARKS, Frame, day_text
 from .notes import COMPUTED, PROVED, moment_text, notes, sums_of, warning, window_text
 from .style import style
-from .tables import month_of
+from .tables import month_of, month_title
 
 # What a year is remembered by.
 GREAT = (
@@ -91,7 +91,7 @@ def _year(found: Almanac, period: Period, clock: Clock) -> str:
     entries = [entry for entry in found.entries if period.start <= entry.seconds < period.end]
     head = f'<h2 class="year">{period.name}</h2>\n' if period.name else ""
     months = groupby(entries, key=lambda entry: month_of(entry, clock))
-    tables = "".join(_month(name, list(rows), clock) for name, rows in months)
+    tables = "".join(_month(month_title(month), list(rows), clock) for month, rows in months)
     shown = _shown(found) if period.start == found.start else ""
     return f"{head}{_glance(entries, clock)}{_figure(found, period, clock)}{shown}{tables}"
 

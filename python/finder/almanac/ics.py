@@ -4,46 +4,54 @@ from __future__ import annotations
 
 import hashlib
 from collections.abc import Iterator
+from datetime import datetime
 
-from ..seen.scales import Clock, utc_of
+from ..seen.scales import UTC, Clock, utc_of
 from .entries import Almanac, Entry
-from .notes import moment_text, said_of, window_text
-
-# The greatest number of octets of a line.
-OCTETS = 75
+from .notes import contact_text, said_of, window_text
+from .packages import icalendar_package
 
 
 def ics_of(found: Almanac, clock: Clock) -> str:
-    """The calendar: an event lasts where it has several moments. Its times are UTC, whatever the clock."""
-    # (no time of day, so that the same almanac makes the same bytes)
-    stamp = _utc(found.start)
-    lines = ["BEGIN:VCALENDAR", "VERSION:2.0", "PRODID:-//finder//almanac//EN", "CALSCALE:GREGORIAN"]
-    lines.append(f"X-WR-CALNAME:{_escaped(found.title)}")
+    """The calendar: an event lasts where it has several moments. Its times are UTC, whatever the clock. It wants the
+    package icalendar."""
+    package = icalendar_package()
+    made = package.Calendar()
+    made.add("version", "2.0")
+    made.add("prodid", "-//finder//almanac//EN")
+    made.add("calscale", "GREGORIAN")
+    made.add("x-wr-calname", found.title)
     for entry in found.entries:
-        lines += _event_of(entry, stamp)
-    lines.append("END:VCALENDAR")
-    return "".join(f"{folded}\r\n" for line in lines for folded in _folded(line))
+        made.add_component(_event_of(package, entry, found))
+    return str(made.to_ical().decode())
 
 
-def _event_of(entry: Entry, stamp: str) -> Iterator[str]:
+def _event_of(package: object, entry: Entry, found: Almanac) -> object:
+    made = package.Event()  # type: ignore[attr-defined]
     start, end = (_utc(entry.contacts[place].seconds) for place in (0, -1))
-    yield from ("BEGIN:VEVENT", f"UID:{_uid(entry)}", f"DTSTAMP:{stamp}", f"DTSTART:{start}")
+    made.add("uid", _uid(entry))
+    # (no time of day, so that the same almanac makes the same bytes)
+    made.add("dtstamp", _utc(found.start))
+    made.add("dtstart", start)
     if start != end:
-        yield f"DTEND:{end}"
-    yield f"SUMMARY:{_escaped(entry.name)}"
-    yield "DESCRIPTION:" + "\\n".join(_escaped(line) for line in _said(entry))
-    yield from (f"CATEGORIES:{_escaped(entry.group.title)}", "TRANSP:TRANSPARENT", "END:VEVENT")
+        made.add("dtend", end)
+    made.add("summary", entry.name)
+    made.add("description", "\n".join(_said(entry)))
+    made.add("categories", [entry.group.title])
+    made.add("transp", "TRANSPARENT")
+    return made
 
 
 def _said(entry: Entry) -> Iterator[str]:
-    """The lines of a description."""
+    """The lines of a description: what is said, and of each moment its time and its window."""
     yield from filter(None, [said_of(entry)])
-    if len(entry.contacts) > 1:
-        for contact in entry.contacts:
-            yield f"{moment_text(contact)}: {utc_of(contact.seconds + 0.5):%H:%M:%S} UTC"
+    several = len(entry.contacts) > 1
     for contact in entry.contacts:
+        if several:
+            yield f"{contact_text(contact)}: {_utc(contact.seconds):%Y-%m-%d %H:%M:%S} UTC"
         if contact.window is not None:
-            yield f"Certified window (TDB): {window_text(contact)}"
+            of = f" of {contact.name}" if several else ""
+            yield f"Certified window{of} (TDB): {window_text(contact)}"
 
 
 def _uid(entry: Entry) -> str:
@@ -52,21 +60,6 @@ def _uid(entry: Entry) -> str:
     return f"{hashlib.sha256('|'.join(windows).encode()).hexdigest()[:32]}@finder"
 
 
-def _utc(seconds: float) -> str:
+def _utc(seconds: float) -> datetime:
     """The nearest second."""
-    return f"{utc_of(seconds + 0.5):%Y%m%dT%H%M%SZ}"
-
-
-def _escaped(text: str) -> str:
-    return text.replace("\\", "\\\\").replace(";", "\\;").replace(",", "\\,").replace("\n", "\\n")
-
-
-def _folded(line: str) -> Iterator[str]:
-    """A line as lines of at most 75 octets, cut between characters."""
-    head = ""
-    for character in line:
-        if len((head + character).encode()) > OCTETS:
-            yield head
-            head = " "
-        head += character
-    yield head
+    return utc_of(seconds + 0.5).replace(microsecond=0, tzinfo=UTC)

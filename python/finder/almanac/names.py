@@ -70,7 +70,7 @@ def names(
     has the name of the time that was found, which is as unproved as that."""
     if not isinstance(found, Windows):
         raise TypeError(f"the windows of a search are wanted, and not {type(found).__name__}")
-    rise, fall = _names_of(found.asked)
+    rise, fall = pair_of(found.asked)
     of_turn = {"rise": rise, "fall": fall}
     made = [of_turn.get(word, "undecided") for word in (found.turn if turn is None else turn).tolist()]
     if east is None or rise != "greatest elongation":
@@ -78,7 +78,7 @@ def names(
     return [f"{name} {'east' if side else 'west'}" if name == rise else name for name, side in zip(made, east)]
 
 
-def _names_of(asked: dict[str, str]) -> Pair:
+def pair_of(asked: dict[str, str]) -> Pair:
     """The names of rise and fall."""
     kind, bodies = asked["kind"], {asked["target"], asked["second"]}
     named: Optional[Pair] = None

@@ -3,6 +3,7 @@
 from __future__ import annotations
 
 import csv
+import datetime
 import io
 import json
 import textwrap
@@ -13,24 +14,82 @@ from itertools import groupby
 from typing import Any, Optional
 
 from .. import spans
-from ..seen.scales import Clock
+from ..seen.scales import UTC, Clock, Scale
+from ..sky.bodies import short_title
+from ..sky.moments import Moment
+from .days import MOON, SUN, Day, WeekRow, days_of, weeks_of
 from .entries import Almanac, Contact, Entry, Numbers
-from .notes import moment_text, notes, sums_of, warning, window_text
+from .notes import contact_text, moment_text, notes, sums_of, warning, window_text
+
+# The width of a paragraph of text.
+WIDE = 120
+INDENT = " " * 18
+COLUMNS = ("group", "event", "name", "bodies", "contact", "status")
+TIMES = ("certified_first_tdb", "certified_last_tdb", "turn")
+PLACES = ("altitude_deg", "azimuth_deg", "is_up")
+# The heads of the columns of a day's text, and their widths.
+DAY_HEAD = "          dawn  dawn  dawn         transit           dusk  dusk  dusk   Moon  tran-  Moon"
+DAY_HEAD_2 = "          18°   12°   6°    rise  at    alt.  set   6°    12°   18°    rise  sit    set   lit"
 
 
-def month_of(entry: Entry, clock: Clock) -> str:
-    """The month in which an entry is shown."""
-    return clock.minute(entry.seconds).strftime("%B %Y")
+def month_of(entry: Entry, clock: Clock) -> datetime.date:
+    """The first day of the month in which an entry is shown."""
+    return clock.minute(entry.seconds).date().replace(day=1)
+
+
+def month_title(month: datetime.date) -> str:
+    """The name of a month, as `July 2031`."""
+    return f"{month:%B} {month.year}"
 
 
 def text_of(found: Almanac, clock: Clock) -> str:
-    """Lines for a terminal: day, time, event, numbers, and the certified window in TDB."""
+    """Lines for a terminal: by month what the place sees by day, if there is one, and the entries: day, time, event,
+    numbers, and the certified window in TDB; then planets by week, and the notes."""
     lines = [f"{found.title}, times in {clock.name}, certified windows in TDB", ""]
-    for month, entries in groupby(found.entries, key=lambda entry: month_of(entry, clock)):
-        lines += [month, "", *(line for entry in entries for line in _lines_of(entry, clock)), ""]
+    months = {month: list(rows) for month, rows in groupby(found.entries, key=lambda entry: month_of(entry, clock))}
+    days = {month: list(rows) for month, rows in groupby(days_of(found, clock), key=lambda day: day.date.replace(day=1))}
+    for month in sorted({*months, *days}):
+        lines += [month_title(month), ""]
+        if month in days:
+            lines += [DAY_HEAD, DAY_HEAD_2, *map(_day_line, days[month]), ""]
+        if month in months:
+            lines += [*(line for entry in months[month] for line in _lines_of(entry, clock)), ""]
+    lines += _week_lines(found, clock)
     for note in notes(found, clock):
         lines += textwrap.wrap(note, WIDE)
     return "\n".join([*lines, ""])
+
+
+def _day_line(day: Day) -> str:
+    cells = [day.texts(name)[:5] or "" for name in SUN]
+    if day.sun_state:
+        cells[3] = cells[5] = day.sun_state
+    altitude = "" if day.altitude != day.altitude else f"{day.altitude:.0f}°"
+    sun = [*cells[:5], altitude, *cells[5:]]
+    moon = [day.texts(name)[:5] for name in MOON]
+    if day.moon_state:
+        moon[0] = moon[2] = day.moon_state
+    shown = " ".join(f"{cell or '-':<5}" for cell in sun) + "  " + " ".join(f"{cell or '-':<6}" for cell in moon)
+    return f"  {day.date:%d %a}  {shown} {100 * day.lit:3.0f}%".rstrip()
+
+
+def _week_lines(found: Almanac, clock: Clock) -> Iterator[str]:
+    """A table of each planet: rising, transit and setting on each seventh day."""
+    rows = weeks_of(found, clock)
+    if not rows:
+        return
+    yield from ("Planets by week: rising, transit, setting", "")
+    bodies = list(rows)
+    yield "          " + "  ".join(f"{short_title(body):<17}" for body in bodies).rstrip()
+    for line in zip(*rows.values()):
+        yield f"  {line[0].date:%d %b}  " + "  ".join(f"{_week_cell(row):<17}" for row in line).rstrip()
+    yield ""
+
+
+def _week_cell(row: WeekRow) -> str:
+    if row.state:
+        return f"{row.state:<5} {row.transits[:5] or '-':<5} {row.state:<5}"
+    return " ".join(f"{cell[:5] or '-':<5}" for cell in (row.rises, row.transits, row.sets))
 
 
 def _lines_of(entry: Entry, clock: Clock) -> Iterator[str]:
@@ -43,37 +102,77 @@ def _lines_of(entry: Entry, clock: Clock) -> Iterator[str]:
         yield from textwrap.wrap(warned, WIDE, initial_indent=INDENT, subsequent_indent=INDENT)
     for contact in () if alone else entry.contacts:
         at = clock.at(contact.seconds + 0.5).strftime("%d %a %H:%M:%S")
-        yield f"      {at}  {moment_text(contact):<79}  {window_text(contact)}".rstrip()
-
-
-# The width of a paragraph of text.
-WIDE = 120
-INDENT = " " * 18
-COLUMNS = ("group", "event", "name", "bodies", "contact", "status")
-TIMES = ("certified_first_tdb", "certified_last_tdb", "turn")
+        yield f"      {at}  {contact_text(contact):<79}  {window_text(contact)}".rstrip()
 
 
 def csv_of(found: Almanac, clock: Clock) -> str:
-    """A table with a row for each moment of each entry, as RFC 4180 has it."""
+    """A table with a row for each moment of each entry, as RFC 4180 has it; of a place also one for each rising, transit
+    and setting, and each begin and end of a twilight."""
     made = io.StringIO(newline="")
     writer = csv.writer(made)
-    seen = f"seen_{clock.scale.value}", "seen_tdb_s"
-    writer.writerow([*COLUMNS, *seen, *TIMES, *(field.name for field in fields(Numbers)), "text", "reason", "request"])
+    numbers = [field.name for field in fields(Numbers)]
+    writer.writerow([*COLUMNS, *_time_names(clock), "seen_tdb_s", *TIMES, *PLACES, *numbers, "text", "request"])
     for entry in found.entries:
         for contact in entry.contacts:
-            writer.writerow([*_row_of(entry, contact, clock), entry.text, contact.reason, contact.request])
+            writer.writerow([*_row_of(entry, contact, clock), entry.text, contact.request])
+    for group, moment in _daily(found):
+        row = (*_moment_of(group, moment), *_times(moment.seconds, clock), *_window(moment), *_place(moment))
+        writer.writerow([*row, *[""] * len(numbers), "", moment.request])
     return made.getvalue()
+
+
+def _time_names(clock: Clock) -> list[str]:
+    """The columns of times: of the scale, and of the zone where it is not UTC."""
+    return [f"seen_{clock.scale.value}", *(["seen_local"] if _has_zone(clock) else [])]
+
+
+def _has_zone(clock: Clock) -> bool:
+    return clock.scale is Scale.UTC and clock.zone is not UTC
+
+
+def _times(seconds: float, clock: Clock) -> list[str]:
+    """The time in the scale, in UTC where that is it, and in the zone; and in seconds of TDB."""
+    plain = Clock(clock.scale).iso(seconds)
+    return [plain, *([clock.iso(seconds)] if _has_zone(clock) else []), f"{seconds:.3f}"]
+
+
+def _daily(found: Almanac) -> Iterator[tuple[str, Moment]]:
+    """The moments of the tables of days and weeks in the span, with their groups."""
+    if found.local is None:
+        return
+    for group, moments in (("days", found.local.sun), ("days", found.local.moon)):
+        yield from ((group, each) for each in moments if found.start <= each.seconds < found.end)
+    for moments in found.local.planets.values():
+        yield from (("weeks", each) for each in moments if found.start <= each.seconds < found.end)
+
+
+def _moment_of(group: str, moment: Moment) -> Iterator[str]:
+    yield from (group, moment.name, moment.name, moment.body, "", "certified" if moment.is_certain else "undecided")
+
+
+def _window(moment: Moment) -> Iterator[str]:
+    if moment.window is None:
+        yield from ("", "", "")
+    else:
+        yield from (moment.window.text("first"), moment.window.text("last"), moment.window.turn or "")
+
+
+def _place(moment: Moment) -> Iterator[str]:
+    yield from (f"{moment.altitude:.3f}", "" if moment.azimuth != moment.azimuth else f"{moment.azimuth:.3f}")
+    yield "yes" if moment.is_up else "no"
 
 
 def _row_of(entry: Entry, contact: Contact, clock: Clock) -> Iterator[str]:
     yield from (entry.group.value, entry.event.value, entry.name, "+".join(entry.bodies), contact.name)
     yield contact.status.value
-    yield from ("", "") if contact.seen is None else (clock.iso(contact.seen), f"{contact.seen:.3f}")
+    yield from _times(contact.seconds, clock)
     if contact.window is None:
         yield from ("", "", "")
     else:
         first, last, turn = contact.window
-        yield from (spans.time_text(first), spans.time_text(last), turn or "")
+        yield from (spans.time_text(first, contact.window.tick), spans.time_text(last, contact.window.tick), turn or "")
+    yield from ("" if value is None else f"{value:.3f}" for value in (contact.altitude, contact.azimuth))
+    yield {None: "", True: "yes", False: "no"}[contact.is_up]
     for value in _numbers_of(entry.numbers).values():
         yield "" if value is None else str(value)
 
@@ -84,8 +183,9 @@ def _numbers_of(numbers: Numbers) -> dict[str, Any]:
 
 
 def json_of(found: Almanac, clock: Clock) -> str:
-    """One object: the entries with their moments, numbers and requests, and what they come from."""
-    whole = {
+    """One object: the entries with their moments, numbers and requests, and what they come from; of a place also its
+    days and weeks."""
+    whole: dict[str, Any] = {
         "title": found.title,
         "scale": clock.scale.value,
         "zone": clock.name,
@@ -96,7 +196,35 @@ def json_of(found: Almanac, clock: Clock) -> str:
         "groups": [group.value for group in found.groups],
         "events": [_object_of(entry, clock) for entry in found.entries],
     }
+    if found.local is not None:
+        place = found.local.place
+        whole["place"] = {"latitude": place.latitude, "longitude": place.longitude, "metres": place.metres}
+        whole["days"] = [_day_object(day) for day in days_of(found, clock)]
+        whole["weeks"] = {body: [_week_object(row) for row in rows] for body, rows in weeks_of(found, clock).items()}
     return json.dumps(whole, ensure_ascii=False, allow_nan=False, indent=1) + "\n"
+
+
+def _day_object(day: Day) -> dict[str, Any]:
+    cells = {name: [time.isoformat() for time in day.cells[name]] for name in (*SUN, *MOON) if day.cells.get(name)}
+    altitude = None if day.altitude != day.altitude else round(day.altitude, 2)
+    return {
+        "date": f"{day.date}",
+        "times": cells,
+        "altitude_deg": altitude,
+        "sun": day.sun_state or None,
+        "moon": day.moon_state or None,
+        "lit": round(day.lit, 3),
+    }
+
+
+def _week_object(row: WeekRow) -> dict[str, Any]:
+    return {
+        "date": f"{row.date}",
+        "rises": row.rises.split(),
+        "transits": row.transits.split(),
+        "sets": row.sets.split(),
+        "state": row.state or None,
+    }
 
 
 def _object_of(entry: Entry, clock: Clock) -> dict[str, Any]:
@@ -117,15 +245,18 @@ def _contact_of(contact: Contact, clock: Clock) -> dict[str, Any]:
     window: Optional[dict[str, Optional[str]]] = None
     if contact.window is not None:
         first, last, turn = contact.window
-        window = {"first": spans.time_text(first), "last": spans.time_text(last), "turn": turn}
-    seen: Optional[dict[str, Any]] = None
-    if contact.seen is not None:
-        seen = {clock.scale.value: clock.iso(contact.seen), "tdb_s": round(contact.seen, 3)}
-    return {
+        ends = (spans.time_text(ticks, contact.window.tick) for ticks in (first, last))
+        window = {**dict(zip(("first", "last"), ends)), "turn": turn}
+    made: dict[str, Any] = {
         "name": contact.name,
+        "meaning": moment_text(contact),
         "status": contact.status.value,
-        "seen": seen,
+        "seen": {clock.scale.value: Clock(clock.scale).iso(contact.seconds), "tdb_s": round(contact.seconds, 3)},
         "certified_tdb": window,
-        "reason": contact.reason,
+        "searched": contact.text,
         "request": contact.request,
     }
+    if contact.altitude is not None and contact.azimuth is not None:
+        made["altitude_deg"], made["azimuth_deg"] = round(contact.altitude, 3), round(contact.azimuth, 3)
+        made["is_up"] = contact.is_up
+    return made

@@ -79,6 +79,19 @@ class Series:
             self._tables[name] = np.ascontiguousarray(table), np.ascontiguousarray(rates)
         return self._tables[name]
 
+    @property
+    def block(self) -> float:
+        """The length of a block in seconds."""
+        return float(self._length)
+
+    def granules(self, name: str) -> int:
+        """How many granules of a column are in a block."""
+        return int(self._columns[2, COLUMNS.index(name)])
+
+    def coefficients(self, name: str) -> Floats:
+        """The coefficients of a column in km: by granule, axis and coefficient."""
+        return floats(self._table(name)[0].transpose(2, 1, 0))
+
     def _column(self, name: str, times: Floats, rates: bool) -> Floats:
         """Positions of a column in km, an array of three rows; with rates, in km/s, six rows. NaN outside."""
         granules = self._columns[2, COLUMNS.index(name)]

@@ -19,6 +19,7 @@ SEASONS = {
     "y": {"rise": "March equinox", "fall": "September equinox"},
     "x": {"fall": "June solstice", "rise": "December solstice"},
 }
+QUARTERS = {"rise": "last quarter", "fall": "first quarter"}
 
 
 def seasons(searches: Searches, span: Span, precise: bool) -> list[Moment]:
@@ -40,6 +41,11 @@ def syzygies(searches: Searches, span: Span, precise: bool) -> list[Moment]:
     for kind, name in (("conj", "new moon"), ("oppo", "full moon")):
         made += searches.moments("moon", _always(name), kind, "moon", "sun", span, precise)
     return made
+
+
+def quarters(searches: Searches, span: Span, precise: bool) -> list[Moment]:
+    """The quarters of the Moon: in the flat text it is 90 degrees from the Sun."""
+    return searches.moments("moon", _by_turn(QUARTERS), "sep", "moon", "sun", span, precise, ref=0)
 
 
 def _always(name: str) -> Naming:

@@ -29,8 +29,8 @@ COMPASS = ("N", "NNE", "NE", "ENE", "E", "ESE", "SE", "SSE", "S", "SSW", "SW", "
 class Moment:
     """A moment: its `name`, as `sunrise`, and the `body` that it is of.
 
-    `window` is proved: it is that of a search at a tick of a second, and holds exactly one event of the search, if it is
-    certain. `fine` is the window of a search at a tick of a millisecond inside it, or None where none was made.
+    `window` is proved: it is that of a search at a tick of a second, or of a millisecond where that of a second was
+    undecided, and holds exactly one event of the search, if it is certain. `fine` is the window of a search at a tick of a millisecond inside it, or None where none was made.
     `seconds` is the time that is shown, in seconds since J2000 (TDB): the middle of `fine`, else that of `window`. A time
     that has no window, as that of a greatest magnitude, is computed in doubles. `altitude` and `azimuth` are those of the
     centre of the body then, in degrees, without refraction, and NaN where there is no place; they are doubles too.
@@ -127,6 +127,10 @@ class Moments(Sequence[Moment]):
     def __str__(self) -> str:
         return self.text()
 
+    def without_said(self) -> Moments:
+        """The same moments, of which nothing is said."""
+        return Moments(self)
+
     def named(self, *names: str) -> Moments:
         """Those of some names."""
         return Moments([each for each in self if each.name in names], self.said)
@@ -214,13 +218,19 @@ def moments_of(
     """A moment for each window at a second, with the time of the windows at a millisecond that lie in it.
 
     One that is certain at a second and has no certain window at a millisecond in it, has the middle of what is undecided
-    there; so it is certain to the second, and its time is that of its window. `name` names it by its turn."""
+    there; so it is certain to the second, and its time is that of its window. In place of one that is undecided at a
+    second stand the windows at a millisecond in it, unless one of them reaches out of it. `name` names a moment by its
+    turn."""
+    if fine is None:
+        return [Moment(name(each.turn), body, middle(each), each, None, coarse.request) for each in coarse]
     made = []
-    inside = _windows_inside(coarse, fine) if fine is not None else [[] for _ in coarse]
-    for window, within in zip(coarse, inside):
+    touching = _windows_touching(coarse, fine)
+    for window, within, touched in zip(coarse, _windows_inside(coarse, fine), touching):
+        if window.turn is None and touched == len(within):
+            made += [Moment(name(each.turn), body, middle(each), each, each, fine.request) for each in within]
+            continue
         best = _best(window, within)
-        seconds = middle(best) if best is not None else middle(window)
-        made.append(Moment(name(window.turn), body, seconds, window, best, coarse.request))
+        made.append(Moment(name(window.turn), body, middle(best or window), window, best, coarse.request))
     return made
 
 
@@ -230,6 +240,15 @@ def _windows_inside(coarse: Windows, fine: Windows) -> list[list[Window]]:
     low = np.searchsorted(fine.first, (coarse.first - 1) * scale, "right")
     high = np.searchsorted(fine.last, coarse.last * scale, "right")
     return [[fine[place] for place in range(first, last)] for first, last in zip(low.tolist(), high.tolist())]
+
+
+def _windows_touching(coarse: Windows, fine: Windows) -> list[int]:
+    """How many windows at a millisecond have a time in common with each of those at a second."""
+    scale = fine.tick // coarse.tick
+    low = np.searchsorted(fine.last, (coarse.first - 1) * scale, "right")
+    high = np.searchsorted(fine.first, coarse.last * scale, "right")
+    counts: list[int] = (high - low).tolist()
+    return counts
 
 
 def _best(window: Window, within: list[Window]) -> Optional[Window]:

@@ -48,6 +48,8 @@ class Searches:
         self._text = text
         self._program = program
         self._axes = axes
+        #: How many searches were made.
+        self.count = 0
         self._windows: dict[Any, Windows] = {}
         self._sets: dict[Any, TimeSet] = {}
 
@@ -75,6 +77,7 @@ class Searches:
         """The windows of a search from the place, or the centre, that the text is of."""
         key = kind, target, second, span, tick, *sorted(words.items())
         if key not in self._windows:
+            self.count += 1
             options = {"observer": "earth", **words}
             search: Callable[..., Windows] = find
             self._windows[key] = search(self._files, kind, *self._columns(target, second), **self._of(span, tick), **options)
@@ -92,6 +95,7 @@ class Searches:
         """The set of times of a search."""
         key = kind, target, second, span, tick, *sorted(words.items())
         if key not in self._sets:
+            self.count += 1
             options = {"observer": "earth", **words}
             search: Callable[..., TimeSet] = times
             self._sets[key] = search(self._files, kind, *self._columns(target, second), **self._of(span, tick), **options)

@@ -23,8 +23,10 @@ from ..searches.times import Time, ticks_of_time
 from ..seen.scales import Clock
 from ..seen.vectors import Floats
 from .bodies import PLANETS, title
-from .centre import meetings, seasons, syzygies
+from .centre import meetings, quarters, seasons, syzygies
+from .earth_rotation import EarthRotation, earth_rotation
 from .eclipses import LocalEclipse, eclipses_of, radii_of
+from .flat import FlatText
 from .horizon import TWILIGHTS, Horizon, checked_altitude, horizon_of, only, passes, said_of, twilight_of
 from .meridian import check_meridian, culminations, transits
 from .moments import ClockLike, Moment, Moments
@@ -59,6 +61,7 @@ class Sky(SkyText):
     """
 
     _source: Optional[Ephemeris] = None
+    _rotation: Optional[EarthRotation] = None
     _words: Mapping[str, Any] = {}
 
     def __init__(self, kept: Kept, program: Program = None) -> None:
@@ -76,8 +79,11 @@ class Sky(SkyText):
     @classmethod
     def of(cls: type[Made], source: Ephemeris, *words: Any, **more: Any) -> Made:
         """The sky over a source, with the words of `Ephemeris.sky`; it keeps the source, for the Earth's centre."""
+        place = words[0] if words else more.get("place")
+        rotation = None if place is None else earth_rotation(delta_t=more.get("delta_t"))
+        more["delta_t"] = rotation
         made = super().of(source, *words, **more)
-        made._source = source
+        made._source, made._rotation = source, rotation
         made._words = {name: more[name] for name in ("cache",) if name in more}
         return made
 
@@ -101,6 +107,24 @@ class Sky(SkyText):
         made.__dict__.update(self.__dict__)
         made._span = span
         return made
+
+    def run_by(self: Made, program: Program) -> Made:
+        """The same sky, whose searches a program makes."""
+        made = self._part(self._span)
+        made._program = runs_of(program, None)
+        made.searches = Searches(made, made._program, self.axes)
+        made._centres = {}
+        return made
+
+    @property
+    def program(self) -> Runs:
+        """The runs of the program that makes the searches."""
+        return self._program
+
+    @property
+    def earth_rotation(self) -> Optional[EarthRotation]:
+        """How the Earth turns in this sky; None for its centre."""
+        return self._rotation
 
     @property
     def span(self) -> Span:
@@ -309,7 +333,9 @@ class Sky(SkyText):
 
     def phases(self, *, precise: bool = True) -> Moments:
         """New and full moons and quarters, of longitudes on the ecliptic of date from the Earth's centre."""
-        made = syzygies(self.centre("ecliptic").searches, self._span, precise)
+        ecliptic = self.centre("ecliptic")
+        made = syzygies(ecliptic.searches, self._span, precise)
+        made += quarters(Searches(FlatText(ecliptic), self._program, "ecliptic"), self._span, precise)
         return Moments(self.searches.placed("moon", made))
 
     def seasons(self, *, precise: bool = True) -> Moments:

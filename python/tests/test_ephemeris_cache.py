@@ -29,7 +29,9 @@ OPENS = "import sys, finder; print(finder.Ephemeris.open(sys.argv[1], '2000-05-0
 
 def texts_in(folder):
     """The folders of texts in a cache."""
-    return [path for path in Path(folder).iterdir() if path.name != cache.LOCKS and not path.name.startswith(cache.UNDONE)]
+    return [
+        path for path in Path(folder).iterdir() if path.name != cache.LOCKS and not path.name.startswith(cache.UNDONE)
+    ]
 
 
 class Cache(InCache):
@@ -50,7 +52,9 @@ class Cache(InCache):
 
     def test_killed_in_the_middle(self):
         """A process that is killed while it writes leaves no text, and the next one makes it whole."""
-        slow = f"from finder.ephemeris import cache; import os, time; cache.os.fsync = lambda _: time.sleep(60); {OPENS}"
+        slow = (
+            f"from finder.ephemeris import cache; import os, time; cache.os.fsync = lambda _: time.sleep(60); {OPENS}"
+        )
         process = self.process("-c", slow, str(YEAR))
         home = self.folder / "cache"
         self.assertTrue(wait_for(lambda: list(home.glob(f"{cache.UNDONE}*/ephemeris.asc"))))
@@ -143,11 +147,15 @@ class Cache(InCache):
 
     def test_several_files(self):
         """A text of several files in the cache, and over_files over them."""
-        with mock.patch.object(writing, "MAX_BYTES", 100_000), mock.patch("finder.ephemeris.ascii_de.MAX_BYTES", 100_000):
+        with mock.patch.object(writing, "MAX_BYTES", 100_000), mock.patch(
+            "finder.ephemeris.ascii_de.MAX_BYTES", 100_000
+        ):
             eph = finder.Ephemeris.open(YEAR, "2000-02-01", "2000-12-01")
         self.assertGreater(len(eph.files), 3)
         found = finder.apsides(eph, "moon", observer="earth")
-        self.assertEqual(list(found), list(finder.apsides(YEAR, "moon", observer="earth", start="2000-02-01", end="2000-12-01")))
+        self.assertEqual(
+            list(found), list(finder.apsides(YEAR, "moon", observer="earth", start="2000-02-01", end="2000-12-01"))
+        )
         self.assertEqual(list(finder.over_files(finder.apsides, eph, "moon", observer="earth", jobs=2)), list(found))
         extreme = finder.least(eph, "moon", observer="earth")
         self.assertEqual(len(extreme.certificates()), 2)
@@ -173,7 +181,18 @@ class Commands(InCache):
 
     @unittest.skipUnless(importlib.util.find_spec("erfa"), "there is no erfa here")
     def test_text_of_a_sky(self):
-        words = ["text", str(YEAR), "--from", "2000-05-01", "--to", "2000-05-08", "--place", "52.52,13.40", "--delta-t", "64"]
+        words = [
+            "text",
+            str(YEAR),
+            "--from",
+            "2000-05-01",
+            "--to",
+            "2000-05-08",
+            "--place",
+            "52.52,13.40",
+            "--delta-t",
+            "64",
+        ]
         status, out, _ = self.run_words(*words, "--out", str(self.folder / "out"))
         self.assertEqual((status, out), (0, f"{self.folder}/out/sky.asc\n"))
         title = " ".join(Path(out.strip()).read_text("ascii").split("GROUP   1030")[0].split())

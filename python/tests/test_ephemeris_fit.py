@@ -142,7 +142,9 @@ class Fits(InCache):
         self.refused("leave emb out", lambda: self.fit({"earth": circle(DAY), "emb": circle(DAY)}))
         self.refused("'ssb', the origin", lambda: self.fit({"ssb": circle(DAY)}))
         fast = {"probe": circle(600.0, 7e3)}
-        self.refused("more blocks than a search reads|name a shorter span", lambda: self.fit(fast, "1900-01-01", "2100-01-01"))
+        self.refused(
+            "more blocks than a search reads|name a shorter span", lambda: self.fit(fast, "1900-01-01", "2100-01-01")
+        )
 
     def test_table(self):
         """Places at times: those of a circle each six hours, by polynomials; with velocities each day."""
@@ -153,7 +155,9 @@ class Fits(InCache):
         self.assertLess(np.abs(off).max(), 1.0)
         turn = 2 * np.pi / (9 * DAY)
         speed = turn * np.array([-circle(9 * DAY)(times)[1], circle(9 * DAY)(times)[0], 0 * times])
-        exact = self.fit({"probe": (times, circle(9 * DAY)(times).T, speed.T)}, "2000-01-03", "2000-01-28", tolerance=0.1)
+        exact = self.fit(
+            {"probe": (times, circle(9 * DAY)(times).T, speed.T)}, "2000-01-03", "2000-01-28", tolerance=0.1
+        )
         off = finder.Series(exact).body(exact.names["probe"], at) - circle(9 * DAY)(at)
         self.assertLess(np.abs(off).max(), 0.05)
         self.refused("2000-01-01T12:33:20 to ", lambda: self.fit({"probe": (times, circle(9 * DAY)(times))}))
@@ -204,7 +208,7 @@ class Satellites(InCache):
 
     @unittest.skipUnless(has("skyfield"), "there is no skyfield here")
     def test_places_are_those_of_skyfield(self):
-        """Both adapters, of the satellite itself and of Skyfield's, beside Skyfield's places; its UT1 is another one."""
+        """Both adapters, of the satellite itself and of Skyfield's, beside Skyfield's places of another UT1."""
         from sgp4.api import Satrec
         from skyfield.api import EarthSatellite, load
 
@@ -250,10 +254,16 @@ class Stars(InCache):
         from astropy.time import Time
 
         # Barnard's star, by Hipparcos
+        motion = {"pm_ra_cosdec": -797.84 * u.mas / u.yr, "pm_dec": 10326.93 * u.mas / u.yr}
+        epoch = Time(1991.25, format="jyear", scale="tdb")
         place = SkyCoord(
-            269.45402305 * u.deg, 4.66828815 * u.deg, Distance(parallax=549.01 * u.mas), pm_ra_cosdec=-797.84 * u.mas / u.yr,
-            pm_dec=10326.93 * u.mas / u.yr, radial_velocity=-110.6 * u.km / u.s, obstime=Time(1991.25, format="jyear", scale="tdb"),
-        )  # fmt: skip
+            269.45402305 * u.deg,
+            4.66828815 * u.deg,
+            Distance(parallax=549.01 * u.mas),
+            radial_velocity=-110.6 * u.km / u.s,
+            obstime=epoch,
+            **motion,
+        )
         eph = finder.Ephemeris.fit({"barnard": place}, "2050-01-01", "2050-02-01")
         time = Time("2050-01-15T00:00:00", scale="tdb")
         later = place.apply_space_motion(new_obstime=time).cartesian.xyz.to_value("pc")

@@ -48,7 +48,8 @@ class Skies(InCache):
                 self.assertIn(str(edge), "\n".join(sky.titles))
 
     def test_edges_are_where_the_sun_is(self):
-        """Mercury and Venus are beyond the Sun on 2000-05-09 and 2000-06-11 (superior conjunctions, as almanacs have them)."""
+        """Mercury and Venus are beyond the Sun on 2000-05-09 and 2000-06-11 (superior conjunctions, as almanacs have
+        them)."""
         edges = {edge.body: edge for edge in self.sky(*PLACES[0], end="2000-07-01").edges}
         for body, day in (("mercury", "2000-05-09"), ("venus", "2000-06-11")):
             noon = (np.datetime64(f"{day}T12:00:00") - np.datetime64("2000-01-01T12:00:00")) / np.timedelta64(1, "s")
@@ -91,7 +92,8 @@ class Skies(InCache):
         self.refused("dec= from -90 to 90", lambda: finder.Star(10, 100))
 
     def test_geometric_places_are_those_of_the_source(self):
-        """Without light time, bending, aberration and axes of date, from the Earth's centre: the differences of JPL's."""
+        """Without light time, bending, aberration and axes of date, from the Earth's centre: the differences of
+        JPL's."""
         sky = self.sky(light_time=False, bending=False, aberration=False, axes="j2000")
         times = np.random.default_rng(1).uniform(sky.start, sky.end, 200)
         series, source = finder.Series(sky), finder.Series(YEAR)
@@ -127,8 +129,10 @@ class BesideSkyfield(InCache):
         return self.scale.tdb_jd(2_451_545.0 + days, (seconds - days * DAY) / DAY)
 
     def seen(self, observer, target, time):
-        """Skyfield's apparent directions on the true equator and equinox of date, without bending by the Earth: Skyfield
-        takes for it the Earth's place when the light passed Saturn, so that it is wrong by up to six milliarcseconds."""
+        """Skyfield's apparent directions on the true equator and equinox of date, without bending by the Earth:
+        Skyfield takes for it the Earth's place when the light passed Saturn, so that it is wrong by up to six
+        milliarcseconds.
+        """
         here = observer.at(time)
         here._observer_gcrs_au = None
         ra, dec, _ = here.observe(target).apparent().radec(epoch="date")
@@ -173,17 +177,28 @@ class BesideSkyfield(InCache):
         from skyfield.api import Star
         from skyfield.searchlib import find_discrete
 
-        star = Star(ra_hours=10.139530740, dec_degrees=11.967208780, ra_mas_per_year=-249.4, dec_mas_per_year=4.91, parallax_mas=42.09)
+        star = Star(
+            ra_hours=10.139530740,
+            dec_degrees=11.967208780,
+            ra_mas_per_year=-249.4,
+            dec_mas_per_year=4.91,
+            parallax_mas=42.09,
+        )
         sky = self.eph.sky(None, "2000-02-01", "2000-05-01", stars={"regulus": star})
         found = finder.conjunctions(sky, "moon", "regulus", tick=1000)
         earth = self.kernel["earth"]
 
         def is_past(time):
-            moon, other = (earth.at(time).observe(each).apparent().radec(epoch="date")[0].hours for each in (self.kernel["moon"], star))
+            moon, other = (
+                earth.at(time).observe(each).apparent().radec(epoch="date")[0].hours
+                for each in (self.kernel["moon"], star)
+            )
             return (moon - other + 12) % 24 >= 12
 
         is_past.step_days = 1.0
-        times, past = find_discrete(*(self.times(np.array([float(each)]))[0] for each in (sky.start, sky.end)), is_past, 1e-9)
+        times, past = find_discrete(
+            *(self.times(np.array([float(each)]))[0] for each in (sky.start, sky.end)), is_past, 1e-9
+        )
         seconds = ((times.whole - 2_451_545.0) + times.tdb_fraction) * DAY
         # (of half a turn the difference passes 0 too, the other way)
         meetings = seconds[past == 1]

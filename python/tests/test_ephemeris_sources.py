@@ -139,7 +139,10 @@ class Ascii(InCache):
         opened = finder.Ephemeris.open
         self.refused("name the header", lambda: opened(files[0]))
         self.refused("without blocks", lambda: opened(header))
-        self.refused("1999-12-24T00:00:00 to 2001-01-11T00:00:00 .*is asked for", lambda: opened(YEAR, "2000-01-01", "2002-01-01"))
+        self.refused(
+            "1999-12-24T00:00:00 to 2001-01-11T00:00:00 .*is asked for",
+            lambda: opened(YEAR, "2000-01-01", "2002-01-01"),
+        )
         self.refused("start= is before end=", lambda: opened(YEAR, "2000-02-01", "2000-01-01"))
         self.refused("no folder|no file|No such", lambda: opened(self.folder / "none.405"), OSError)
         self.refused("no file is like", lambda: opened(str(self.folder / "*.none")), OSError)
@@ -195,7 +198,8 @@ class Binary(InCache):
         self.files[1].write_bytes(kernels.swapped(little.read_bytes()))
 
     def test_same_bytes_of_windows(self):
-        """Both byte orders have JPL's coefficients, so their blocks are the same bytes; and JPL's windows, to the letter."""
+        """Both byte orders have JPL's coefficients, so their blocks are the same bytes; and JPL's windows, to the
+        letter."""
         ephs = [finder.Ephemeris.open(name) for name in self.files]
         self.assertEqual(blocks_of(ephs[0]), blocks_of(ephs[1]))
         self.same_series(ephs[0])
@@ -219,7 +223,9 @@ class Binary(InCache):
         whole = finder.Ephemeris.open(self.files[0])
         joined = finder.Ephemeris.open([self.folder / "b", self.folder / "a"])
         self.assertEqual(blocks_of(joined), blocks_of(whole))
-        self.refused("blocks are missing of 2000-07-03", lambda: finder.Ephemeris.open([self.folder / "a", self.folder / "c"]))
+        self.refused(
+            "blocks are missing of 2000-07-03", lambda: finder.Ephemeris.open([self.folder / "a", self.folder / "c"])
+        )
         (self.folder / "cut").write_bytes(data[: 3 * size - 100])
         self.refused("has no records of 32 days", lambda: finder.Ephemeris.open(self.folder / "cut"))
         self.refused("one form", lambda: finder.Ephemeris.open([YEAR, self.files[0]]))
@@ -228,7 +234,8 @@ class Binary(InCache):
 @needs_jplephem
 class Kernels(InCache):
     def test_coefficients_and_windows_of_the_year(self):
-        """A kernel as JPL's are, of its numbers of the year: the doubles of the text, and its windows, to the letter."""
+        """A kernel as JPL's are, of its numbers of the year: the doubles of the text, and its windows, to the
+        letter."""
         eph = finder.Ephemeris.open(kernels.write_year(self.folder / "year.bsp"))
         self.same_series(eph)
         self.assertEqual(eph.errors, {})
@@ -236,7 +243,8 @@ class Kernels(InCache):
             self.assertEqual(windows_of(eph.files, words), windows_of([YEAR], words))
 
     def test_both_orders_and_types(self):
-        """The other byte order, and type 3, have the same blocks; what it is is told by the first bytes, not the name."""
+        """The other byte order, and type 3, have the same blocks; what it is is told by the first bytes, not the
+        name."""
         plain = finder.Ephemeris.open(kernels.write_year(self.folder / "a"))
         for name, order, kind in (("b.405", ">", 2), ("c.asc", "<", 3)):
             other = finder.Ephemeris.open(kernels.write_year(self.folder / name, order, kind))
@@ -299,7 +307,9 @@ class Kernels(InCache):
         self.assertIn("there are segments of 10", said)
         no_moon = write(self.folder / "earth.bsp", [segment(3, 0, *year), segment(399, 3, *year)])
         self.refused("no places of moon", lambda: finder.Ephemeris.open(no_moon))
-        first, later = segment(10, 0, year[0][:8], start, year[2]), segment(10, 0, year[0][12:], start + 192 * DAY, year[2])
+        first, later = segment(10, 0, year[0][:8], start, year[2]), segment(
+            10, 0, year[0][12:], start + 192 * DAY, year[2]
+        )
         torn = write(self.folder / "gap.bsp", [first, later])
         said = self.refused("no place of 10 from 0", lambda: finder.Ephemeris.open(torn, bodies=["sun"]))
         self.assertIn("2000-04-30T00:00:00 to 2000-07-03T00:00:00", said)
@@ -320,7 +330,9 @@ class Kernels(InCache):
         segment = kernels.chebyshev_segment(2000001, 10, flat, start, 32.0 * DAY)
         segment.frame = 17
         path = kernels.write_spk(self.folder / "ceres.bsp", [segment])
-        eph = finder.Ephemeris.open([kernels.write_year(self.folder / "year.bsp"), path], bodies={"ceres": 2000001, "sun": "sun"})
+        eph = finder.Ephemeris.open(
+            [kernels.write_year(self.folder / "year.bsp"), path], bodies={"ceres": 2000001, "sun": "sun"}
+        )
         places = finder.Series(eph)
         away = places.body(eph.names["ceres"], [0.0]) - places.body("sun", [0.0])
         # (the cosine and the sine of 84381.448 arc seconds)
@@ -361,7 +373,11 @@ class Kernels(InCache):
         away = finder.Series(eph).body(eph.names["probe"], at) - finder.Series(YEAR).body("sun", at)
         np.testing.assert_allclose(away, [[1e6 - 98] * 2, 2 * (at - start), [10, 10]], atol=2e-6)
         with mock.patch.dict(sys.modules, spiceypy=None):
-            self.refused("type 13, which needs the package spiceypy", lambda: finder.Ephemeris.open(paths, cache=False, **words), ImportError)
+            self.refused(
+                "type 13, which needs the package spiceypy",
+                lambda: finder.Ephemeris.open(paths, cache=False, **words),
+                ImportError,
+            )
 
     @unittest.skipUnless(importlib.util.find_spec("spiceypy"), "there is no spiceypy here")
     def test_type_13(self):
@@ -371,12 +387,24 @@ class Kernels(InCache):
         start, step = 0.0, 7_200.0
         times = start + step * np.arange(400)
         turn = 2 * np.pi / (90 * DAY)
-        states = [[1e8 * np.cos(turn * t), 1e8 * np.sin(turn * t), 0, -1e8 * turn * np.sin(turn * t), 1e8 * turn * np.cos(turn * t), 0] for t in times]
+        states = [
+            [
+                1e8 * np.cos(turn * t),
+                1e8 * np.sin(turn * t),
+                0,
+                -1e8 * turn * np.sin(turn * t),
+                1e8 * turn * np.cos(turn * t),
+                0,
+            ]
+            for t in times
+        ]
         path = str(self.folder / "probe.bsp")
         handle = spiceypy.spkopn(path, "probe", 0)
         spiceypy.spkw13(handle, -98, 10, "J2000", times[0], times[-1], "probe", 7, len(times), states, times)
         spiceypy.spkcls(handle)
-        eph = finder.Ephemeris.open([kernels.write_year(self.folder / "year.bsp"), path], bodies={"sun": "sun", "probe": -98})
+        eph = finder.Ephemeris.open(
+            [kernels.write_year(self.folder / "year.bsp"), path], bodies={"sun": "sun", "probe": -98}
+        )
         at = np.random.default_rng(6).uniform(times[0], times[-1], 100)
         away = finder.Series(eph).body(eph.names["probe"], at) - finder.Series(YEAR).body("sun", at)
         np.testing.assert_allclose(away, 1e8 * np.array([np.cos(turn * at), np.sin(turn * at), 0 * at]), atol=1e-3)

@@ -41,7 +41,9 @@ class Numbers(unittest.TestCase):
         every = np.concatenate([values, small, edges])
         text = writing.fields(every).tobytes().decode("ascii")
         back = [float(word) for word in text.replace("D", "E").split()]
-        self.assertEqual([struct.pack("d", each + 0.0) for each in back], [struct.pack("d", each + 0.0) for each in every])
+        self.assertEqual(
+            [struct.pack("d", each + 0.0) for each in back], [struct.pack("d", each + 0.0) for each in every]
+        )
         self.assertRegex(text, r"\A(?:  ?-?0\.[0-9]{18}D[+-][0-9]{2})*\Z")
         self.assertEqual(len(text), 26 * len(every))
 
@@ -94,7 +96,9 @@ class Texts(InFolder):
 
     def test_titles_are_lines_of_ascii(self):
         text = text_of_year()
-        titled = EphemerisText(text.start, text.block, 12, text.columns, text.mass_ratio, ("Sterne über " * 20, "GROUP 1"))
+        titled = EphemerisText(
+            text.start, text.block, 12, text.columns, text.mass_ratio, ("Sterne über " * 20, "GROUP 1")
+        )
         names = self.write(titled)
         self.assertEqual(finder.check(names).blocks, 12)
         lines = names[0].read_bytes().split(b"GROUP   1030")[0].splitlines()

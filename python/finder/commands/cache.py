@@ -5,10 +5,11 @@ from __future__ import annotations
 import argparse
 
 from ..ephemeris import cache
+from ..ephemeris.cache import Kept
 from ..ephemeris.text import span_text
 
 DESCRIPTION = """\
-Lists or removes the texts that the package keeps: kernels, clipped files and skies that were made ready for the program.
+Lists or removes the texts that the package keeps: kernels, clipped files and skies, made ready for the program.
 
 They are in the folder $FINDER_CACHE, or $XDG_CACHE_HOME/finder, or ~/.cache/finder. Each is made again where it is
 missing, so that nothing is lost with them."""
@@ -31,10 +32,13 @@ def run(words: argparse.Namespace) -> str:
         count, size = cache.clear()
         return f"removed {count} texts, {size / MEGABYTE:.1f} MB, from {cache.cache_folder()}\n"
     found = cache.texts()
-    lines = [
-        f"{text.about['sha256'][:SHOWN]}  {text.bytes / MEGABYTE:8.1f} MB  {span_text(text.about['start'], text.about['end'])}  "
-        f"{text.about['titles'][0]}\n"
-        for text in found
-    ]
+    lines = [_line(text) for text in found]
     total = sum(text.bytes for text in found)
     return "".join([*lines, f"{len(found)} texts, {total / MEGABYTE:.1f} MB, in {cache.cache_folder()}\n"])
+
+
+def _line(text: Kept) -> str:
+    """A text on a line: the first letters of its SHA-256, its length, its span and the first line of its title."""
+    about = text.about
+    span = span_text(about["start"], about["end"])
+    return f"{about['sha256'][:SHOWN]}  {text.bytes / MEGABYTE:8.1f} MB  {span}  {about['titles'][0]}\n"

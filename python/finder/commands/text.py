@@ -10,9 +10,9 @@ from ..ephemeris.ephemeris import Ephemeris
 DESCRIPTION = """\
 Writes a source as text files that `finder find` reads, and prints their names, in the order in which it takes them.
 
-A source is JPL's ASCII or binary files of DE in any order, or SPK kernels, each of them compressed or not, a folder or a
-pattern in quotes. With --place or --centre it is the sky that is seen there: apparent places on axes of date. The header
-of the text says what it was made of, what each column holds, and how far it is from the motion."""
+A source is JPL's ASCII or binary files of DE in any order, or SPK kernels, each of them compressed or not, a folder or
+a pattern in quotes. With --place or --centre it is the sky that is seen there: apparent places on axes of date. The
+header of the text says what it was made of, what each column holds, and how far it is from the motion."""
 EXAMPLES = """\
 examples:
   finder text de440.bsp --from 2031-01-01 --to 2032-01-01 --out texts
@@ -43,7 +43,9 @@ def run(words: argparse.Namespace) -> str:
     is_sky = bool(words.place or words.centre)
     if (words.axes or words.delta_t is not None) and not is_sky:
         words.refuse("--axes and --delta-t are of a sky: name --place or --centre")
-    bodies = None if words.bodies is None else [int(each) if each.isdigit() else each for each in words.bodies.split(",")]
+    bodies = (
+        None if words.bodies is None else [int(each) if each.isdigit() else each for each in words.bodies.split(",")]
+    )
     cache = not words.no_cache
     if not is_sky:
         eph = Ephemeris.open(words.sources, words.start, words.end, bodies=bodies, cache=cache)

@@ -25,7 +25,8 @@ from .series import Series
 AU = 149_597_870.7
 # Each pass leaves a part of v/c of the fault of a place before: the third some decimetres.
 PASSES = 3
-# The least of 1 + cos by which light is bent: 0.256 degrees from the Sun's centre, within its disc, where nothing is seen.
+# The least of 1 + cos by which light is bent: 0.256 degrees from the Sun's centre, within its disc, where nothing is
+# seen.
 DEFLECTION_LIMIT = 1e-5
 # The Earth's rate of rotation in radians a second (ERFA's `pvtob`).
 ROTATION = 1.00273781191135448 * 2 * np.pi / DAY
@@ -84,9 +85,7 @@ class _Moment:
 class ApparentSky:
     """Places of bodies from an observer on the Earth or at its centre, by name, at seconds since J2000 (TDB)."""
 
-    def __init__(
-        self, series: Series, place: Optional[Place], rotation: Optional[EarthRotation], model: Model
-    ) -> None:
+    def __init__(self, series: Series, place: Optional[Place], rotation: Optional[EarthRotation], model: Model) -> None:
         self._series = series
         self._place = place
         self._rotation = rotation
@@ -157,9 +156,7 @@ class ApparentSky:
                 far = length(place)
         return self._seen(place / far, far, None if body == "sun" else place, moment, body == "sun")
 
-    def _seen(
-        self, toward: Floats, far: Any, place: Optional[Floats], moment: _Moment, is_sun: bool = False
-    ) -> Floats:
+    def _seen(self, toward: Floats, far: Any, place: Optional[Floats], moment: _Moment, is_sun: bool = False) -> Floats:
         """A direction, bent and turned by aberration, at its distance in km. Without a place it is that of a star."""
         erfa = erfa_package()
         from_sun = moment.here - moment.sun

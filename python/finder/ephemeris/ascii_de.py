@@ -87,13 +87,14 @@ class AsciiSource:
         for before, after in zip(self.blocks, self.blocks[1:]):
             if before.end != after.start:
                 raise WrongSource(
-                    f"between {before.file.name} and {after.file.name} blocks are missing, {span_text(before.end, after.start)}: "
+                    f"between {before.file.name} and {after.file.name} blocks are missing, "
+                    f"{span_text(before.end, after.start)}: "
                     "name the files that have them, or start= and end= on one side"
                 )
         if len(self.blocks) > MAX_BLOCKS:
             raise WrongSource(
-                f"{span_text(self.start, self.end)} has {len(self.blocks)} blocks, and a search reads {MAX_BLOCKS} at most: "
-                "name start= and end= nearer to each other"
+                f"{span_text(self.start, self.end)} has {len(self.blocks)} blocks, and a search reads {MAX_BLOCKS} at "
+                "most: name start= and end= nearer to each other"
             )
         return self
 
@@ -168,7 +169,8 @@ def _blocks(file: SourceFile, after: int, count: int) -> Iterator[Block]:
     while begin:
         if int(begin[1]) != count:
             raise WrongSource(
-                f"{file.name} has blocks of {int(begin[1])} numbers, and the header says {count}: they are of two series"
+                f"{file.name} has blocks of {int(begin[1])} numbers, and the header says {count}: they are of two "
+                "series"
             )
         near = BLOCK.match(data, begin.start() + length) if length else None
         after_this = near or BLOCK.search(data, begin.end())
@@ -197,8 +199,8 @@ def _in_order(every: list[Block]) -> Iterator[Block]:
         if last is not None and block.start < last.end:
             if (block.start, block.end) != (last.start, last.end) or block.text.split()[1:] != last.text.split()[1:]:
                 raise WrongSource(
-                    f"{last.file.name} and {block.file.name} have other numbers of {span_text(block.start, block.end)}: they "
-                    "are of two series, so name files of one"
+                    f"{last.file.name} and {block.file.name} have other numbers of "
+                    f"{span_text(block.start, block.end)}: they are of two series, so name files of one"
                 )
             continue
         yield block

@@ -58,7 +58,9 @@ def read(files: list[SourceFile], start: Optional[float], end: Optional[float]) 
     row = np.concatenate([np.arange(len(each.records)) for each in every])
     order = np.argsort(dates, kind="stable")
     low, high = int(dates[order[0]]), int(dates[order[-1]]) + first.block
-    kept = [at for at in order if (end is None or dates[at] < end) and (start is None or dates[at] + first.block > start)]
+    kept = [
+        at for at in order if (end is None or dates[at] < end) and (start is None or dates[at] + first.block > start)
+    ]
     if not kept:
         return _text(first, np.empty((0, first.records.shape[1])), low), low, high
     rows: list[Floats] = []
@@ -102,7 +104,10 @@ def _record_size(file: SourceFile, order: str, days: float, least: int) -> int:
         first = struct.unpack_from(f"{order}2d", file.data, 2 * DOUBLE * size)
         if first[1] - first[0] != days or not -1e7 < first[0] < 1e7:
             continue
-        if len(file.data) < 4 * DOUBLE * size or struct.unpack_from(f"{order}d", file.data, 3 * DOUBLE * size)[0] == first[1]:
+        if (
+            len(file.data) < 4 * DOUBLE * size
+            or struct.unpack_from(f"{order}d", file.data, 3 * DOUBLE * size)[0] == first[1]
+        ):
             return size
     raise WrongSource(f"{file.name} has no records of {days:g} days after its header: copy it anew")
 
@@ -114,6 +119,4 @@ def _text(first: BinaryFile, rows: Floats, start: int) -> EphemerisText:
         if count and granules:
             numbers = rows[:, place - 1 : place - 1 + AXES * count * granules]
             columns[name] = Column(numbers.reshape(-1, AXES, count).astype(float), granules)
-    return EphemerisText(
-        start, first.block, len(rows), columns, first.mass_ratio, first.titles, first.constants
-    )
+    return EphemerisText(start, first.block, len(rows), columns, first.mass_ratio, first.titles, first.constants)

@@ -40,8 +40,8 @@ class Layout:
 
 
 def layouts(start: float, end: float) -> Iterator[Layout]:
-    """Blocks over a span in seconds since J2000 (TDB), the longest first. They begin with the span, and end with it where
-    it is a multiple of 675 seconds as days are; else at most some hundred seconds a block later.
+    """Blocks over a span in seconds since J2000 (TDB), the longest first. They begin with the span, and end with it
+    where it is a multiple of 675 seconds as days are; else at most some hundred seconds a block later.
 
     >>> next(layouts(0, 365 * 86400))
     Layout(start=0, block=1971000, blocks=16)

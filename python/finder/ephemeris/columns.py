@@ -9,8 +9,8 @@ import numpy as np
 from ..seen.vectors import Floats
 from .text import COLUMNS, Column, WrongText
 
-# The columns that are places from the origin as they are, in the order in which other names take them; the Moon's column
-# is the last, as the Earth stands in it too.
+# The columns that are places from the origin as they are, in the order in which other names take them; the Moon's
+# column is the last, as the Earth stands in it too.
 FREE = ("pluto", "neptune", "uranus", "saturn", "jupiter", "mars", "venus", "mercury", "sun", "moon")
 MASS_RATIO = 81.30056
 

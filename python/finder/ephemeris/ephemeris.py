@@ -24,8 +24,8 @@ Source = Union[str, os.PathLike[str], Iterable[Union[str, os.PathLike[str]]]]
 
 @public
 class Ephemeris:
-    """A text that is searched: JPL's files as they are, or the blocks of a span of any source that `open` reads, motions
-    that `fit` fits, or the sky of a place.
+    """A text that is searched: JPL's files as they are, or the blocks of a span of any source that `open` reads,
+    motions that `fit` fits, or the sky of a place.
 
     Every search takes it in place of files, and takes and gives the names of `names`.
 
@@ -62,8 +62,8 @@ class Ephemeris:
         tolerance: Union[None, float, Mapping[str, float]] = None,
         cache: bool = True,
     ) -> Ephemeris:
-        """The ephemeris of motions, each a function of seconds of TDB since J2000: an array of n in, kilometres out, 3 by n,
-        or n numbers, a scalar, which stands on the axis x."""
+        """The ephemeris of motions, each a function of seconds of TDB since J2000: an array of n in, kilometres out, 3
+        by n, or n numbers, a scalar, which stands on the axis x."""
         from .fit import fit
 
         first, last = seconds_of_time(start), seconds_of_time(end)

@@ -14,7 +14,17 @@ from .blocks import Layout, layouts
 from .cache import Kept, kept, key_of
 from .chebyshev import Grid
 from .columns import FREE, MASS_RATIO
-from .fitting import FitError, Tolerance, compared, errors_to_keep, fitted, granule_of, places_of, refuse, times_of_check
+from .fitting import (
+    FitError,
+    Tolerance,
+    compared,
+    errors_to_keep,
+    fitted,
+    granule_of,
+    places_of,
+    refuse,
+    times_of_check,
+)
 from .motions import Motion, Named, motion_of
 from .text import AXES, COLUMNS, MAX_COEFFICIENTS, MAX_NUMBERS, Column, EphemerisText, WrongText, span_text
 
@@ -35,7 +45,9 @@ def fit(
 ) -> Kept:
     """The text of motions over a span in seconds since J2000 (TDB)."""
     if not isinstance(functions, Mapping) or not functions:
-        raise TypeError(f"functions are a dictionary of names and motions, as {{'name': function}}, and not {functions!r}")
+        raise TypeError(
+            f"functions are a dictionary of names and motions, as {{'name': function}}, and not {functions!r}"
+        )
     if not start < end:
         raise ValueError(f"start is before end, and {span_text(start, end)} is no span")
     named = [_with_tolerance(motion_of(name, given, start, end), tolerance) for name, given in functions.items()]
@@ -56,7 +68,11 @@ def fit(
         "origin": "earth" if earth else "ssb",
     }
     series = [column.coefficients.tobytes() for column in whole.columns.values()]
-    return kept(key_of(["fit", list(titles), about["names"], whole.start, whole.block, *series]), lambda: (writing.files(whole), about), cache)
+    return kept(
+        key_of(["fit", list(titles), about["names"], whole.start, whole.block, *series]),
+        lambda: (writing.files(whole), about),
+        cache,
+    )
 
 
 def _with_tolerance(motion: Named, tolerance: Union[None, float, Mapping[str, float]]) -> Named:
@@ -138,7 +154,9 @@ def _fitted(columns: Mapping[str, Named], start: float, end: float) -> tuple[Eph
             sizes = {word: (size, made[word].count) for word, (size, _) in sizes.items()}
         if refusal is not None and min(size for size, _ in sizes.values()) < 1:
             break
-    raise refusal or WrongText(f"no blocks of the format are found for {span_text(start, end)}: name a shorter span, or fewer bodies")
+    raise refusal or WrongText(
+        f"no blocks of the format are found for {span_text(start, end)}: name a shorter span, or fewer bodies"
+    )
 
 
 def _with_origin(columns: Mapping[str, Column], layout: Layout) -> dict[str, Column]:
@@ -161,8 +179,8 @@ def _layout(sizes: Mapping[str, tuple[float, int]], start: float, end: float) ->
             return layout
     quick = min(sizes, key=lambda word: sizes[word][0] / sizes[word][1])
     raise WrongText(
-        f"{span_text(start, end)} has more blocks than a search reads, as {quick} needs granules of {sizes[quick][0]:g} seconds: name "
-        "a shorter span, fewer bodies, or a greater tolerance"
+        f"{span_text(start, end)} has more blocks than a search reads, as {quick} needs granules of "
+        f"{sizes[quick][0]:g} seconds: name a shorter span, fewer bodies, or a greater tolerance"
     )
 
 
@@ -173,11 +191,18 @@ def _column(motion: Named, layout: Layout, size: float, count: int) -> tuple[Col
     places = _motions(motion)
     series = fitted(places, grid, min(MAX_COEFFICIENTS, count + SPARE), {motion.name: motion.tolerance})
     found = compared(places, grid, series, *times_of_check(grid))[motion.name]
-    refuse(motion.name, found, motion.tolerance, "the motion has a jump or an edge there: name a span without it, or tolerance=")
+    refuse(
+        motion.name,
+        found,
+        motion.tolerance,
+        "the motion has a jump or an edge there: name a span without it, or tolerance=",
+    )
     return Column(series[motion.name], granules), found.error(np.ones(len(found.times), bool), motion.is_scalar)
 
 
-def _titles(named: list[Named], words: Mapping[str, str], text: EphemerisText, errors: Mapping[str, FitError]) -> tuple[str, ...]:
+def _titles(
+    named: list[Named], words: Mapping[str, str], text: EphemerisText, errors: Mapping[str, FitError]
+) -> tuple[str, ...]:
     """The lines of the title."""
     lines = [f"Motions of {span_text(text.start, text.end)}, fitted by finder."]
     for motion in named:

@@ -1,4 +1,5 @@
-"""Motions fitted by Chebyshev series: how long a granule is and of which degree, and how far the series is from them."""
+"""Motions fitted by Chebyshev series: how long a granule is and of which degree, and how far the series is from
+them."""
 
 from __future__ import annotations
 
@@ -24,8 +25,8 @@ TRIED = 24
 # A series is cut off where what is left is below this part of the tolerance, which is put at so many doubles of a place
 # where it is below them.
 SHARE = 0.25
-# The last coefficients show how doubles scatter, if they no longer fall: so many times that may be left, up to a half of
-# the tolerance.
+# The last coefficients show how doubles scatter, if they no longer fall: so many times that may be left, up to a half
+# of the tolerance.
 LAST, SCATTERS, MOST_NOISE = 6, 1.5, 0.5
 # The coefficients, of those that are tried, that have to be over.
 SPARE = 3
@@ -74,7 +75,8 @@ class FitError:
         angles = ["", ""]
         if np.isfinite(self.largest_arcseconds):
             angles = [f" km, {angle:.3g} arc seconds" for angle in (self.largest_arcseconds, self.most_arcseconds)]
-        return f"largest {self.largest_km:.3g}{angles[0]}; 99 in 100 below {self.most_km:.3g}{angles[1]}; of {self.times} times"
+        most = f"99 in 100 below {self.most_km:.3g}{angles[1]}"
+        return f"largest {self.largest_km:.3g}{angles[0]}; {most}; of {self.times} times"
 
 
 @dataclass(frozen=True)
@@ -121,9 +123,10 @@ def places_of(motions: Motions, times: Floats) -> dict[str, Floats]:
         if wrong.any():
             at = int(np.argmax(wrong))
             raise WrongText(
-                f"{name} gives {places[:, at].tolist()} at {time_text(times[at])} TDB ({times[at]!r} seconds since J2000), in "
-                f"{span_text(times.min(), times.max())}: numbers below 2^36 (68,719,476,736 km, 459 au) are wanted; name a "
-                "span in which it has them, and for what is farther give a direction, at a distance of your own"
+                f"{name} gives {places[:, at].tolist()} at {time_text(times[at])} TDB ({times[at]!r} seconds since "
+                "J2000), in "
+                f"{span_text(times.min(), times.max())}: numbers below 2^36 (68,719,476,736 km, 459 au) are wanted; "
+                "name a span in which it has them, and for what is farther give a direction, at a distance of your own"
             )
         made[name] = places
     return made
@@ -137,8 +140,8 @@ def _shape(places: object) -> str:
 
 
 def coefficients_needed(series: Floats, allowed: Floats) -> int:
-    """How many coefficients series of granules need, of those that they have, where so much is allowed for each granule,
-    in km: the others together leave a part of it, or are the scatter of doubles, which the last ones show."""
+    """How many coefficients series of granules need, of those that they have, where so much is allowed for each
+    granule, in km: the others together leave a part of it, or are the scatter of doubles, which the last ones show."""
     count = series.shape[2]
     squares = (series**2).sum(axis=1)
     tails = np.sqrt(squares[:, ::-1].cumsum(axis=1)[:, ::-1])
@@ -173,7 +176,9 @@ def times_of_check(grid: Grid) -> tuple[Numbers, Floats]:
     return np.concatenate([granules, order, order]), np.concatenate([times, ends[:-1] + inside, ends[1:] - inside])
 
 
-def compared(motions: Motions, grid: Grid, series: Mapping[str, Floats], granules: Numbers, times: Floats) -> dict[str, Comparison]:
+def compared(
+    motions: Motions, grid: Grid, series: Mapping[str, Floats], granules: Numbers, times: Floats
+) -> dict[str, Comparison]:
     """Series beside their motions at times, each within its granule."""
     true = places_of(motions, times)
     made = {}
@@ -192,8 +197,8 @@ def refuse(name: str, compared_with: Comparison, tolerance: Tolerance, advice: s
         off = compared_with.off[at]
         angle = off / max(compared_with.far[at], np.finfo(float).tiny) * ARC_SECONDS
         raise WrongText(
-            f"{name} is {off:.3g} km ({angle:.3g} arc seconds) from its series at {time_text(compared_with.times[at])} TDB, "
-            f"and {tolerance} are allowed: {advice}"
+            f"{name} is {off:.3g} km ({angle:.3g} arc seconds) from its series at {time_text(compared_with.times[at])} "
+            f"TDB, and {tolerance} are allowed: {advice}"
         )
 
 
@@ -213,9 +218,10 @@ def granule_of(name: str, motions: Motions, start: float, end: float, tolerance:
             break
     if best is None:
         raise WrongText(
-            f"{name} in {span_text(start, end)} is no smooth motion to {tolerance}: by series of {TRIED} coefficients, of whatever "
-            f"length, it scatters by {least:.3g} km and more; name a span without jumps, or a tolerance= above its scatter, as that "
-            "of doubles of time"
+            f"{name} in {span_text(start, end)} is no smooth motion to {tolerance}: by series of {TRIED} coefficients, "
+            "of whatever "
+            f"length, it scatters by {least:.3g} km and more; name a span without jumps, or a tolerance= above its "
+            "scatter, as that of doubles of time"
         )
     return best[1], best[2]
 

@@ -1,4 +1,5 @@
-"""What is taken for a motion: a function, a scalar, a Skyfield vector function, a satellite of sgp4, a star, a table."""
+"""What is taken for a motion: a function, a scalar, a Skyfield vector function, a satellite of sgp4, a star, a
+table."""
 
 from __future__ import annotations
 
@@ -16,7 +17,8 @@ from .order import J2000_DATE
 from .stars import Star, star_of
 from .text import WrongText, span_text
 
-# A function of seconds since J2000 (TDB), an array of n, that gives km, 3 by n, or n numbers; or what is turned into one.
+# A function of seconds since J2000 (TDB), an array of n, that gives km, 3 by n, or n numbers; or what is turned into
+# one.
 Motion = Union[Callable[[Floats], Any], Star, Any]
 # A millimetre, in km, and for directions a microarcsecond; and how far a direction is put, in km.
 MILLIMETRE = Tolerance(kilometres=1e-6)
@@ -30,8 +32,8 @@ POINTS = 8
 
 @dataclass(frozen=True)
 class Named:
-    """A motion with its name: a function that gives 3 by n km, what it is, how good its series has to be, and whether it
-    is a scalar, which stands on the axis x."""
+    """A motion with its name: a function that gives 3 by n km, what it is, how good its series has to be, and whether
+    it is a scalar, which stands on the axis x."""
 
     name: str
     places: Callable[[Floats], Floats]
@@ -43,7 +45,9 @@ class Named:
 def motion_of(name: str, given: Any, start: float, end: float) -> Named:
     """A motion of any usual form, over a span in seconds since J2000 (TDB)."""
     if hasattr(given, "sgp4_array"):
-        return Named(name, satellite(name, given), f"satellite {given.satnum} by SGP4 from the Earth's centre, axes of the GCRS")
+        return Named(
+            name, satellite(name, given), f"satellite {given.satnum} by SGP4 from the Earth's centre, axes of the GCRS"
+        )
     if hasattr(given, "at") and hasattr(given, "center"):
         return Named(name, _of_skyfield(given), f"Skyfield's {given}".replace("\n", " "))
     if isinstance(given, Star) or hasattr(given, "icrs") or hasattr(given, "ra_mas_per_year"):
@@ -54,8 +58,8 @@ def motion_of(name: str, given: Any, start: float, end: float) -> Named:
         return Named(name, Table.of(name, *given).within(name, start, end), f"a table of {len(given[0])} places")
     if not callable(given):
         raise TypeError(
-            f"{name} is a function of seconds of TDB since J2000, a vector function of Skyfield, a Satrec of sgp4, a star "
-            f"(finder.Star, SkyCoord, Skyfield's Star), or a table (seconds, km), and not {given!r}"
+            f"{name} is a function of seconds of TDB since J2000, a vector function of Skyfield, a Satrec of sgp4, a "
+            f"star (finder.Star, SkyCoord, Skyfield's Star), or a table (seconds, km), and not {given!r}"
         )
     what = f"the function {getattr(given, '__qualname__', type(given).__name__)}"
     tried = np.asarray(given(start + (end - start) * np.linspace(0.1, 0.9, TRIED)))
@@ -101,7 +105,10 @@ def satellite(name: str, satrec: Any) -> Callable[[Floats], Floats]:
         wrong, made, _ = satrec.sgp4_array(*(np.ascontiguousarray(each) for each in utc))
         if wrong.any():
             at = float(times[int(np.argmax(wrong != 0))])
-            raise WrongText(f"{name} has no place by SGP4 at {at!r} seconds since J2000 (error {wrong[wrong != 0][0]}): name a span near its epoch")
+            raise WrongText(
+                f"{name} has no place by SGP4 at {at!r} seconds since J2000 (error {wrong[wrong != 0][0]}): name a "
+                "span near its epoch"
+            )
         of_date = frames_of_date("eq", times)
         turn = erfa.gst06(*utc, date, part, of_date) - erfa.gmst82(*utc)
         cosine, sine = np.cos(turn), np.sin(turn)
@@ -125,15 +132,17 @@ class Table:
         at = floats(times)
         rows = [_rows(name, each, len(at)) for each in (places, velocities) if each is not None]
         if len(at) < POINTS or (np.diff(at) <= 0).any():
-            raise WrongText(f"the table of {name} has {len(at)} times: {POINTS} or more are wanted, each after the one before")
+            raise WrongText(
+                f"the table of {name} has {len(at)} times: {POINTS} or more are wanted, each after the one before"
+            )
         return cls(at, rows[0], rows[1] if len(rows) > 1 else None)
 
     def within(self, name: str, start: float, end: float) -> Callable[[Floats], Floats]:
         """The places between the times of the table, which have to hold a span."""
         if start < self.times[0] or end > self.times[-1]:
             raise WrongText(
-                f"the table of {name} has {span_text(self.times[0], self.times[-1])}, and {span_text(start, end)} is asked for: name "
-                "a span within it"
+                f"the table of {name} has {span_text(self.times[0], self.times[-1])}, and {span_text(start, end)} is "
+                "asked for: name a span within it"
             )
         return self.at
 
@@ -149,7 +158,9 @@ class Table:
         if self.velocities is None:
             return _newton(knots, values, at)
         twice = np.repeat(knots, 2, axis=1)
-        return _newton(twice, np.repeat(values, 2, axis=2), at, np.repeat(self.velocities[:, near] * half[:, None], 2, axis=2))
+        return _newton(
+            twice, np.repeat(values, 2, axis=2), at, np.repeat(self.velocities[:, near] * half[:, None], 2, axis=2)
+        )
 
 
 def _newton(knots: Floats, values: Floats, at: Floats, slopes: Optional[Floats] = None) -> Floats:
@@ -174,5 +185,7 @@ def _rows(name: str, places: Any, count: int) -> Floats:
     if rows.shape == (count, 3) and count != 3:
         rows = rows.T
     if rows.shape != (3, count):
-        raise WrongText(f"the table of {name} has places of shape {rows.shape} for {count} times: 3 by {count} are wanted")
+        raise WrongText(
+            f"the table of {name} has places of shape {rows.shape} for {count} times: 3 by {count} are wanted"
+        )
     return rows

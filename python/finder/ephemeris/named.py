@@ -81,8 +81,8 @@ def words_of_request(files: Files, words: Mapping[str, Any]) -> dict[str, Any]:
             made[role] = _word(files.names, made[role])
     if made.get("frame") is not None and made["frame"] not in files.frames:
         raise ValueError(
-            f"the places of this text stand on the axes of date, on which frame={made['frame']!r} means nothing: leave frame= "
-            "out, and make the sky with axes='ecliptic' for longitudes of the ecliptic of date"
+            f"the places of this text stand on the axes of date, on which frame={made['frame']!r} means nothing: leave "
+            "frame= out, and make the sky with axes='ecliptic' for longitudes of the ecliptic of date"
         )
     for name, second in zip(("start", "end"), files.asked):
         if made.get(name) is None and second is not None:

@@ -33,7 +33,9 @@ def opened(source: Any, start: Optional[float], end: Optional[float], bodies: Bo
         raise ValueError(f"start= is before end=, and {span_text(start, end)} is no span")
     files = source_files(source)
     if bodies is not None and files[0].form is not Form.SPK:
-        raise TypeError(f"bodies= are of SPK kernels, and {files[0].name} is {files[0].form.value}, whose bodies are all kept")
+        raise TypeError(
+            f"bodies= are of SPK kernels, and {files[0].name} is {files[0].form.value}, whose bodies are all kept"
+        )
     if files[0].form is Form.ASCII:
         return _of_ascii(files, start, end, cache)
     facts = [files[0].form.name, VERSION, [[file.sha256, file.last_name] for file in files], start, end, _shown(bodies)]
@@ -46,8 +48,8 @@ def in_source(start: Optional[float], end: Optional[float], first: float, last: 
     low, high = first if start is None else start, last if end is None else end
     if low < first or high > last or low >= high:
         raise WrongSource(
-            f"{name} has {span_text(first, last)}, and {span_text(low, high)} is asked for: name a span within it, or a "
-            "source that has more"
+            f"{name} has {span_text(first, last)}, and {span_text(low, high)} is asked for: name a span within it, or "
+            "a source that has more"
         )
 
 
@@ -84,7 +86,9 @@ def _of_kernels(files: list[SourceFile], start: Optional[float], end: Optional[f
     return writing.files(text), _about(text, [start, end], found.names, found.errors)
 
 
-def _about(text: EphemerisText, asked: list[Optional[float]], names: dict[str, str], errors: dict[str, FitError]) -> dict[str, Any]:
+def _about(
+    text: EphemerisText, asked: list[Optional[float]], names: dict[str, str], errors: dict[str, FitError]
+) -> dict[str, Any]:
     """What is known of a text."""
     return {
         "name": "ephemeris",
@@ -134,4 +138,3 @@ def _as_they_are(whole: ascii_de.AsciiSource, part: ascii_de.AsciiSource, files:
     if len(part.blocks) < len(whole.blocks) or whole.headers > 1 or not plain or len(order) > MAX_FILES:
         return ()
     return tuple(os.path.abspath(name) for name in order)
-

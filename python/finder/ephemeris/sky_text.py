@@ -21,13 +21,23 @@ from .cache import Kept, kept, key_of
 from .chebyshev import Grid
 from .columns import columns_of, words_of
 from .ephemeris import Ephemeris, seconds_of_time
-from .fitting import ARC_SECONDS, Tolerance, compared, errors_to_keep, fitted, refuse, times_of_check
+from .fitting import (
+    ARC_SECONDS,
+    FitError,
+    Motions,
+    Tolerance,
+    compared,
+    errors_to_keep,
+    fitted,
+    refuse,
+    times_of_check,
+)
 from .series import Series
 from .stars import Star, star_of
 from .text import DATE_STEP, EphemerisText, WrongText, span_text
 
-# A granule of a place is a day, in which the Earth turns once: 18 coefficients leave 10^-7 arc seconds of the zenith. The
-# most coefficients, to what a series is fitted, and the largest error that is let through.
+# A granule of a place is a day, in which the Earth turns once: 18 coefficients leave 10^-7 arc seconds of the zenith.
+# The most coefficients, to what a series is fitted, and the largest error that is let through.
 COEFFICIENTS = 20
 # The days of a granule of the Earth's centre, the first ones that the source has.
 CENTRE_DAYS = (4, 2)
@@ -47,8 +57,8 @@ Made = TypeVar("Made", bound="SkyText")
 
 @dataclass(frozen=True)
 class Edge:
-    """A span in which the motion of a body has an edge that its series does not follow: light that passes the Sun within
-    its disc. `start` and `end` in seconds since J2000 (TDB), and the largest error in arc seconds."""
+    """A span in which the motion of a body has an edge that its series does not follow: light that passes the Sun
+    within its disc. `start` and `end` in seconds since J2000 (TDB), and the largest error in arc seconds."""
 
     body: str
     start: float
@@ -57,15 +67,16 @@ class Edge:
 
     def __str__(self) -> str:
         return (
-            f"{self.body} beyond the Sun, {span_text(self.start, self.end)}: up to {self.arcseconds:.2g} arc seconds, as "
-            "the bending of light has an edge at the Sun"
+            f"{self.body} beyond the Sun, {span_text(self.start, self.end)}: up to {self.arcseconds:.2g} arc seconds, "
+            "as the bending of light has an edge at the Sun"
         )
 
 
 @public
 class SkyText(Ephemeris):
     """The text of an apparent sky. The observer is its origin, so that `observer="earth"`, which is the default, is the
-    place or the Earth's centre. A place's text has `zenith` and `nadir`, directions at 100,000 km; stars are at 10^9 km.
+    place or the Earth's centre. A place's text has `zenith` and `nadir`, directions at 100,000 km; stars are at 10^9
+    km.
 
     >>> eph = Ephemeris.open("examples/de405-2000.asc")
     >>> sky = eph.sky("51.4769 N 0 E 46 m", "2000-06-01", "2000-06-08", delta_t=63.8)
@@ -122,7 +133,9 @@ class SkyText(Ephemeris):
         return str(self._kept.about["sky"]["rotation"])
 
 
-def _bodies(source: Ephemeris, bodies: Optional[Iterable[str]], place: Optional[Place], stars: Mapping[str, Star]) -> list[str]:
+def _bodies(
+    source: Ephemeris, bodies: Optional[Iterable[str]], place: Optional[Place], stars: Mapping[str, Star]
+) -> list[str]:
     """The names of a sky without its stars: those that are asked for, or as many as the text has columns for."""
     directions = () if place is None else DIRECTIONS
     if bodies is not None:
@@ -156,7 +169,8 @@ def _grid(source: Ephemeris, start: Optional[float], end: Optional[float], days:
         raise WrongText(f"a sky has one day at least, and {span_text(first, last)} has none: name start= before end=")
     if begin < low or begin + count * DAY > high:
         raise WrongText(
-            f"the sky of {span_text(first, last)} wants the places of {span_text(begin - LIGHT_WAY, begin + count * DAY)}, as "
+            f"the sky of {span_text(first, last)} wants the places of "
+            f"{span_text(begin - LIGHT_WAY, begin + count * DAY)}, as "
             f"light takes its time, and the source has {span_text(source.start, source.end)}: name a shorter span, or "
             "open more of the source"
         )
@@ -196,7 +210,8 @@ class _Making:
         return self.asked.grid
 
     def key(self) -> str:
-        """The key of the text: by the source, the place, how the Earth turns, the model, the bodies and the versions."""
+        """The key of the text: by the source, the place, how the Earth turns, the model, the bodies and the
+        versions."""
         turns = b"" if self.rotation is None else self.rotation.delta_t(self.grid.starts).tobytes()
         stars = {name: asdict(star) for name, star in self.stars.items()}
         facts = [self.source.sha256, self._place(), self._sentence(), asdict(self.model), self.bodies, stars]
@@ -220,17 +235,7 @@ class _Making:
 
         names = [*self.bodies, *self.stars]
         fits = fitted(motions, self.grid, COEFFICIENTS, dict.fromkeys(names, FITTED))
-        granules, times = times_of_check(self.grid)
-        every = compared(motions, self.grid, fits, granules, times)
-        edges: list[Edge] = []
-        errors = {}
-        for name in names:
-            near = _near_sun(sky, name, directions, self.grid)
-            smooth = ~np.isin(granules, near)
-            refuse(name, every[name].at(smooth), TOLERANCE, "the source has a jump there, or is none of the solar system")
-            found, inside = self._edges(motions, fits, name, near)
-            edges += found
-            errors[name] = every[name].error(~np.isin(granules, inside))
+        edges, errors = self._errors(sky, motions, fits, directions)
         words = words_of(names)
         text = EphemerisText(
             self.grid.start,
@@ -239,7 +244,13 @@ class _Making:
             columns_of({words[name]: (fit, 1) for name, fit in fits.items()}),
             titles=self._titles(words, errors, edges),
         )
-        about = {
+        return writing.files(text), self._about(text, words, errors, edges)
+
+    def _about(
+        self, text: EphemerisText, words: Mapping[str, str], errors: Mapping[str, FitError], edges: list[Edge]
+    ) -> dict[str, Any]:
+        """What is known of the text."""
+        return {
             "name": "sky",
             "start": text.start,
             "end": text.end,
@@ -256,7 +267,22 @@ class _Making:
                 "edges": [asdict(edge) for edge in edges],
             },
         }
-        return writing.files(text), about
+
+    def _errors(
+        self, sky: ApparentSky, motions: Motions, fits: Mapping[str, Floats], stars: Mapping[str, Any]
+    ) -> tuple[list[Edge], dict[str, FitError]]:
+        """The edges, and the errors outside of them: a series that is worse elsewhere is refused."""
+        granules, times = times_of_check(self.grid)
+        edges: list[Edge] = []
+        errors = {}
+        for name, each in compared(motions, self.grid, fits, granules, times).items():
+            near = _near_sun(sky, name, stars, self.grid)
+            advice = "the source has a jump there, or is none of the solar system"
+            refuse(name, each.at(~np.isin(granules, near)), TOLERANCE, advice)
+            found, inside = self._edges(motions, fits, name, near)
+            edges += found
+            errors[name] = each.error(~np.isin(granules, inside))
+        return edges, errors
 
     def _edges(self, motions: Any, fits: Mapping[str, Floats], name: str, near: Any) -> tuple[list[Edge], list[int]]:
         """The edges of a body, of the granules in which it is near the Sun; and the granules that they are in."""
@@ -271,7 +297,11 @@ class _Making:
         made = []
         for run in np.split(wrong, np.flatnonzero(np.diff(wrong) > 1) + 1) if len(wrong) else []:
             largest = float(angles[np.isin(near, run)].max())
-            made.append(Edge(name, float(self.grid.starts[run[0]]), float(self.grid.starts[run[-1]] + self.grid.length), largest))
+            made.append(
+                Edge(
+                    name, float(self.grid.starts[run[0]]), float(self.grid.starts[run[-1]] + self.grid.length), largest
+                )
+            )
         return made, wrong.tolist()
 
     def _titles(self, words: Mapping[str, str], errors: Mapping[str, Any], edges: list[Edge]) -> tuple[str, ...]:
@@ -307,4 +337,3 @@ def _near_sun(sky: ApparentSky, name: str, stars: Mapping[str, Any], grid: Grid)
     angles = sky.elongation(times, name, stars.get(name))
     least = np.minimum.reduceat(angles[:-1], np.arange(0, 4 * grid.count, 4))
     return np.flatnonzero(np.minimum(least, angles[4::4]) < NEAR_SUN)
-

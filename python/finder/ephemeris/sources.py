@@ -44,8 +44,8 @@ class WrongSource(ValueError):
 
 @dataclass(frozen=True)
 class SourceFile:
-    """A file of a source: its name as it was given or found, what it is, its bytes, decompressed, and the SHA-256 of the
-    file as it lies there."""
+    """A file of a source: its name as it was given or found, what it is, its bytes, decompressed, and the SHA-256 of
+    the file as it lies there."""
 
     name: str
     form: Form

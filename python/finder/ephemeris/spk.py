@@ -85,8 +85,8 @@ class Kernels:
                 if segment.frame not in (EQUATOR, ECLIPTIC):
                     made.close()
                     raise WrongSource(
-                        f"{file.name} has places of {segment.target} on the axes of the frame {segment.frame}: those of "
-                        "J2000 (1) and of its ecliptic (17) are read"
+                        f"{file.name} has places of {segment.target} on the axes of the frame {segment.frame}: those "
+                        "of J2000 (1) and of its ecliptic (17) are read"
                     )
                 made.segments.setdefault((segment.target, segment.center), []).append(segment)
         return made
@@ -125,8 +125,8 @@ class Kernels:
             inside = [each for each in segments if each.start_second <= start and end <= each.end_second]
             if not inside:
                 raise WrongSource(
-                    f"{self.names} have no place of {pair[0]} from {pair[1]} in {span_text(start, end)}, between two segments: "
-                    "name start= and end= on one side, or the kernel that has it"
+                    f"{self.names} have no place of {pair[0]} from {pair[1]} in {span_text(start, end)}, between two "
+                    "segments: name start= and end= on one side, or the kernel that has it"
                 )
             if pieces and pieces[-1].segment is inside[-1]:
                 pieces[-1] = Piece(inside[-1], pieces[-1].start, end)
@@ -164,8 +164,8 @@ class Kernels:
             return on_equator(floats(segment.compute(J2000_DATE + times / DAY)), segment.frame)
         except ValueError:
             raise ImportError(
-                f"the places of {segment.target} from {segment.center} are of type {segment.data_type}, which needs the package "
-                "spiceypy (pip: spiceypy): jplephem reads types 2 and 3"
+                f"the places of {segment.target} from {segment.center} are of type {segment.data_type}, which needs "
+                "the package spiceypy (pip: spiceypy): jplephem reads types 2 and 3"
             ) from None
 
 
@@ -197,7 +197,9 @@ def _opened(file: SourceFile) -> Any:
         from jplephem.daf import DAF
         from jplephem.spk import SPK
     except ImportError:
-        raise ImportError(f"{file.name} is an SPK kernel, which needs the package jplephem (Debian: python3-jplephem)") from None
+        raise ImportError(
+            f"{file.name} is an SPK kernel, which needs the package jplephem (Debian: python3-jplephem)"
+        ) from None
     stream = open(file.name, "rb") if file.is_plain else io.BytesIO(file.data)
     try:
         return SPK(DAF(stream))
@@ -221,8 +223,8 @@ def _by_spice(files: list[SourceFile], segment: Any, times: Floats) -> Floats:
 
     if not all(file.is_plain for file in files):
         raise WrongSource(
-            f"the places of {segment.target} are of type {segment.data_type}, which SpiceyPy reads of files that are not "
-            "compressed: unpack them"
+            f"the places of {segment.target} are of type {segment.data_type}, which SpiceyPy reads of files that are "
+            "not compressed: unpack them"
         )
     for file in files:
         spiceypy.furnsh(file.name)

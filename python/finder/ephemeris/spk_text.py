@@ -18,7 +18,18 @@ from .columns import FREE
 from .fitting import FitError, Tolerance, compared, fitted, granule_of, refuse, times_of_check
 from .sources import SourceFile, WrongSource
 from .spk import COPIED_TYPES, IDS, Kernels, Leg, Piece, has_spice, on_equator, records
-from .text import AXES, COLUMNS, DATE_STEP, MAX_BLOCKS, MAX_DAYS, MAX_NUMBERS, Column, EphemerisText, WrongText, span_text
+from .text import (
+    AXES,
+    COLUMNS,
+    DATE_STEP,
+    MAX_BLOCKS,
+    MAX_DAYS,
+    MAX_NUMBERS,
+    Column,
+    EphemerisText,
+    WrongText,
+    span_text,
+)
 
 Bodies = Union[None, Iterable[Union[str, int]], Mapping[str, Union[str, int]]]
 # EMRAT if a kernel has no Earth and Moon from their barycentre: that of DE440.
@@ -115,8 +126,11 @@ class KernelText:
     end: float
 
 
-def read(files: list[SourceFile], start: Optional[float], end: Optional[float], margin: float, bodies: Bodies) -> KernelText:
-    """The text of kernels over a span in seconds since J2000 (TDB), with so many seconds around it where they have it."""
+def read(
+    files: list[SourceFile], start: Optional[float], end: Optional[float], margin: float, bodies: Bodies
+) -> KernelText:
+    """The text of kernels over a span in seconds since J2000 (TDB), with so many seconds around it where they have
+    it."""
     with contextlib.closing(Kernels.of(files)) as kernels:
         return _read(kernels, start, end, margin, bodies)
 
@@ -130,8 +144,8 @@ def _read(kernels: Kernels, start: Optional[float], end: Optional[float], margin
     for body, is_outside in zip(least, (first < low, last > high)):
         if is_outside or first >= last:
             raise WrongSource(
-                f"{kernels.names} have {body.name} in {span_text(low, high)}, and {span_text(first, last)} is asked for: name a "
-                "span within it, or kernels that have more"
+                f"{kernels.names} have {body.name} in {span_text(low, high)}, and {span_text(first, last)} is asked "
+                "for: name a span within it, or kernels that have more"
             )
     around = first if start is None else max(low, first - margin), last if end is None else min(high, last + margin)
     layout = _layout(wanted, (low, high), (first, last), around, kernels.names)
@@ -208,8 +222,8 @@ def _lacking(kernels: Kernels, body: str) -> WrongSource:
     ends = sorted({pair[0] for pair in kernels.segments})
     return WrongSource(
         f"{kernels.names} have no places of {body} from the barycentre of the solar system: there are segments of "
-        f"{', '.join(map(str, ends))}; open them together with a kernel that has it, as [.., 'de440.bsp'], or name bodies= "
-        "that they have"
+        f"{', '.join(map(str, ends))}; open them together with a kernel that has it, as [.., 'de440.bsp'], or name "
+        "bodies= that they have"
     )
 
 
@@ -235,7 +249,10 @@ def _mass_ratio(kernels: Kernels, earth: int, moon: int) -> float:
     other = kernels.places(kernels.legs(moon, earth), times) + ours
     ratio = -float((ours * other).sum() / (ours * ours).sum())
     if not 1 <= ratio <= 1_000:
-        raise WrongSource(f"{kernels.names} have the Moon {ratio:g} times as far from their barycentre as the Earth: EMRAT is 1 to 1,000")
+        raise WrongSource(
+            f"{kernels.names} have the Moon {ratio:g} times as far from their barycentre as the Earth: EMRAT is 1 to "
+            "1,000"
+        )
     return float(f"{ratio:.13g}")
 
 
@@ -246,17 +263,28 @@ def _layout(
     around: tuple[float, float],
     names: str,
 ) -> EphemerisText:
-    """Blocks without columns: as long as the longest records, where they cover the span that is asked for; else shorter."""
+    """Blocks without columns: as long as the longest records, where they cover the span that is asked for; else
+    shorter."""
     grids = [each.records for each in wanted.values()]
-    lengths = sorted({grid.length for grid in grids if grid is not None and grid.length <= MAX_DAYS * DAY}, reverse=True)
+    lengths = sorted(
+        {grid.length for grid in grids if grid is not None and grid.length <= MAX_DAYS * DAY}, reverse=True
+    )
     common = math.lcm(*lengths) if lengths else 0
     longest = [common] if 0 < common <= MAX_DAYS * DAY else []
-    shorter = [MAX_DAYS * DAY >> power for power in range(13) if MAX_DAYS * DAY >> power < (min(lengths) if lengths else np.inf)]
+    shorter = [
+        MAX_DAYS * DAY >> power
+        for power in range(13)
+        if MAX_DAYS * DAY >> power < (min(lengths) if lengths else np.inf)
+    ]
     best: Optional[EphemerisText] = None
     for block in dict.fromkeys([*longest, *lengths, *shorter]):
         anchor = next((grid.start for grid in grids if grid is not None and grid.length == block), None)
         if anchor is None:
-            anchor = grids[0].start if block == common and grids[0] is not None else math.ceil(around[0] / DATE_STEP) * DATE_STEP
+            anchor = (
+                grids[0].start
+                if block == common and grids[0] is not None
+                else math.ceil(around[0] / DATE_STEP) * DATE_STEP
+            )
         if anchor % DATE_STEP or block < SHORTEST:
             continue
         first = math.ceil((known[0] - anchor) / block)
@@ -271,8 +299,8 @@ def _layout(
             best = made
     if best is None or best.start - asked[0] > DAY or asked[1] - best.end > DAY:
         raise WrongText(
-            f"{names} have {span_text(*known)}, for which no blocks of the format are found with at most {MAX_NUMBERS} numbers and "
-            f"{MAX_BLOCKS} blocks: name a shorter span by start= and end=, or fewer bodies by bodies="
+            f"{names} have {span_text(*known)}, for which no blocks of the format are found with at most {MAX_NUMBERS} "
+            f"numbers and {MAX_BLOCKS} blocks: name a shorter span by start= and end=, or fewer bodies by bodies="
         )
     return best
 

@@ -21,9 +21,9 @@ MILLIARCSECONDS = 3_600_000.0
 @public
 @dataclass(frozen=True)
 class Star:
-    """A star of a catalogue on the axes of the ICRS: `ra` and `dec` in degrees at `epoch` (a Julian year of TDB), proper
-    motions in milliarcseconds a year (that in right ascension times cos(dec), as catalogues have it), parallax in
-    milliarcseconds, and radial velocity in km/s.
+    """A star of a catalogue on the axes of the ICRS: `ra` and `dec` in degrees at `epoch` (a Julian year of TDB),
+    proper motions in milliarcseconds a year (that in right ascension times cos(dec), as catalogues have it), parallax
+    in milliarcseconds, and radial velocity in km/s.
 
     >>> regulus = Star(152.092961, 11.967208, -248.73, 5.59, 41.13, 5.9, 1991.25)
     >>> regulus.direction([0.0], [[0.0], [0.0], [0.0]]).round(4).ravel().tolist()
@@ -40,7 +40,9 @@ class Star:
 
     def __post_init__(self) -> None:
         if not -90 <= self.dec <= 90 or not -360 <= self.ra <= 360:
-            raise ValueError(f"a star has ra= and dec= in degrees, dec= from -90 to 90, and not {self.ra!r}, {self.dec!r}")
+            raise ValueError(
+                f"a star has ra= and dec= in degrees, dec= from -90 to 90, and not {self.ra!r}, {self.dec!r}"
+            )
 
     def direction(self, times: Any, here: Any) -> Floats:
         """Its direction at seconds since J2000 (TDB) from places in km from the barycentre of the solar system, 3 by n:
@@ -75,8 +77,8 @@ def star_of(star: Any, name: str = "a star") -> Star:
     if isinstance(star, (tuple, list)) and len(star) == 2:
         return Star(float(star[0]), float(star[1]))
     raise TypeError(
-        f"{name} is a finder.Star(ra, dec), a pair of degrees (ra, dec), a SkyCoord of astropy or a Star of Skyfield, and "
-        f"not {star!r}"
+        f"{name} is a finder.Star(ra, dec), a pair of degrees (ra, dec), a SkyCoord of astropy or a Star of Skyfield, "
+        f"and not {star!r}"
     )
 
 

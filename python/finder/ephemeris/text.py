@@ -67,8 +67,9 @@ class Column:
 class EphemerisText:
     """Blocks of `block` seconds each, from `start` on, in seconds of TDB since J2000, with the series of columns.
 
-    `mass_ratio` is EMRAT: the Earth's place is that of `emb` less the `moon` column over 1 + EMRAT, and the Moon's place
-    is the Earth's and the `moon` column. The other columns are places from the origin. `titles` are lines of the header.
+    `mass_ratio` is EMRAT: the Earth's place is that of `emb` less the `moon` column over 1 + EMRAT, and the Moon's
+    place is the Earth's and the `moon` column. The other columns are places from the origin. `titles` are lines of the
+    header.
     """
 
     start: int
@@ -107,7 +108,9 @@ class EphemerisText:
         if not 0 < self.block <= MAX_DAYS * DAY:
             raise WrongText(f"a block has {self.block} seconds, and the format at most {MAX_DAYS} days: fit the motion")
         if not FIRST_SECOND <= self.start < self.end <= LAST_SECOND:
-            raise WrongText(f"{span} is outside of the format's {span_text(FIRST_SECOND, LAST_SECOND)}: name a shorter span")
+            raise WrongText(
+                f"{span} is outside of the format's {span_text(FIRST_SECOND, LAST_SECOND)}: name a shorter span"
+            )
         if self.blocks > MAX_BLOCKS:
             longest = MAX_BLOCKS * self.block // DAY
             raise WrongText(
@@ -115,9 +118,13 @@ class EphemerisText:
                 f"{MAX_BLOCKS}: name start= and end= at most {longest} days apart"
             )
         if self.numbers > MAX_NUMBERS:
-            raise WrongText(f"a block has {self.numbers} numbers, and the format at most {MAX_NUMBERS}: name fewer bodies")
+            raise WrongText(
+                f"a block has {self.numbers} numbers, and the format at most {MAX_NUMBERS}: name fewer bodies"
+            )
         if not MIN_MASS_RATIO <= self.mass_ratio <= MAX_MASS_RATIO:
-            raise WrongText(f"EMRAT is {self.mass_ratio:g}, and the format takes {MIN_MASS_RATIO:g} to {MAX_MASS_RATIO:g}")
+            raise WrongText(
+                f"EMRAT is {self.mass_ratio:g}, and the format takes {MIN_MASS_RATIO:g} to {MAX_MASS_RATIO:g}"
+            )
         for name, column in self.columns.items():
             self._check_column(name, column)
         return self
@@ -126,7 +133,8 @@ class EphemerisText:
         """Refuses a column that the format cannot hold."""
         if column.count > MAX_COEFFICIENTS or self.block % column.granules:
             raise WrongText(
-                f"{name} has {column.count} coefficients and {column.granules} granules in a block of {self.block} seconds, "
+                f"{name} has {column.count} coefficients and {column.granules} granules in a block of {self.block} "
+                "seconds, "
                 f"and the format takes {MAX_COEFFICIENTS} coefficients and granules of whole seconds: fit the motion"
             )
         length = self.block // column.granules

@@ -4,14 +4,12 @@ import concurrent.futures
 import contextlib
 import importlib.util
 import io
-import json
 import os
 import pickle
 import resource
 import signal
 import subprocess
 import sys
-import time
 import unittest
 from pathlib import Path
 from unittest import mock
@@ -19,7 +17,7 @@ from unittest import mock
 import finder
 from finder.commands import dispatch
 from finder.ephemeris import cache, writing
-from tests.common import PROGRAM, TOP, YEAR, InFolder, command, wait_for
+from tests.common import PROGRAM, TOP, YEAR, command, wait_for
 from tests.test_ephemeris_sources import InCache
 
 PROCESSES = 16

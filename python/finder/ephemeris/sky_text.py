@@ -17,7 +17,7 @@ from ..sky.earth_rotation import EarthRotation, earth_rotation
 from ..sky.place import Place, PlaceLike
 from . import writing
 from .apparent_places import STAR_DISTANCE, ZENITH_DISTANCE, ApparentSky, Model
-from .cache import Kept, kept, key_of
+from .cache import kept, key_of
 from .chebyshev import Grid
 from .columns import columns_of, words_of
 from .ephemeris import Ephemeris, seconds_of_time

@@ -4,7 +4,7 @@ from __future__ import annotations
 
 import contextlib
 import math
-from collections.abc import Iterable, Mapping
+from collections.abc import Iterable, Iterator, Mapping
 from dataclasses import dataclass, replace
 from typing import Optional, Union
 
@@ -39,7 +39,8 @@ TOLERANCE = Tolerance(kilometres=1e-6)
 # jplephem takes one double for a time of other types, which has 4 10^-5 seconds, in which a planet goes by a metre.
 COARSE = Tolerance(kilometres=1e-2)
 COEFFICIENTS = 24
-SHORTEST = 675
+# The shortest block, in seconds, and how often 32 days are halved for one at most.
+SHORTEST, POWERS = 675, 13
 
 
 @dataclass(frozen=True)
@@ -265,28 +266,8 @@ def _layout(
 ) -> EphemerisText:
     """Blocks without columns: as long as the longest records, where they cover the span that is asked for; else
     shorter."""
-    grids = [each.records for each in wanted.values()]
-    lengths = sorted(
-        {grid.length for grid in grids if grid is not None and grid.length <= MAX_DAYS * DAY}, reverse=True
-    )
-    common = math.lcm(*lengths) if lengths else 0
-    longest = [common] if 0 < common <= MAX_DAYS * DAY else []
-    shorter = [
-        MAX_DAYS * DAY >> power
-        for power in range(13)
-        if MAX_DAYS * DAY >> power < (min(lengths) if lengths else np.inf)
-    ]
     best: Optional[EphemerisText] = None
-    for block in dict.fromkeys([*longest, *lengths, *shorter]):
-        anchor = next((grid.start for grid in grids if grid is not None and grid.length == block), None)
-        if anchor is None:
-            anchor = (
-                grids[0].start
-                if block == common and grids[0] is not None
-                else math.ceil(around[0] / DATE_STEP) * DATE_STEP
-            )
-        if anchor % DATE_STEP or block < SHORTEST:
-            continue
+    for block, anchor in _candidates([each.records for each in wanted.values()], around[0]):
         first = math.ceil((known[0] - anchor) / block)
         first = max(first, math.floor((around[0] - anchor) / block))
         last = min(math.floor((known[1] - anchor) / block), math.ceil((around[1] - anchor) / block))
@@ -303,6 +284,21 @@ def _layout(
             f"numbers and {MAX_BLOCKS} blocks: name a shorter span by start= and end=, or fewer bodies by bodies="
         )
     return best
+
+
+def _candidates(grids: list[Optional[Records]], start: float) -> Iterator[tuple[int, int]]:
+    """The lengths of blocks that are tried, the longest first, and a time at which one of them begins: those of the
+    records, and shorter ones. JPL's lengths are powers of two, so that the longest is a multiple of all."""
+    longest = MAX_DAYS * DAY
+    known = [grid for grid in grids if grid is not None and grid.length <= longest]
+    lengths = sorted({grid.length for grid in known}, reverse=True)
+    least = min(lengths) if lengths else longest + 1
+    shorter = [longest >> power for power in range(POWERS) if SHORTEST <= longest >> power < least]
+    for block in (*lengths, *shorter):
+        anchors = [grid.start for grid in known if grid.length == block]
+        anchor = anchors[0] if anchors else math.ceil(start / DATE_STEP) * DATE_STEP
+        if anchor % DATE_STEP == 0:
+            yield block, anchor
 
 
 def _numbers(wanted: Mapping[str, Wanted], block: int) -> int:

@@ -4,15 +4,17 @@ from __future__ import annotations
 
 import math
 import os
-from collections.abc import Iterable, Mapping
+from collections.abc import Callable, Iterable, Mapping
 from pathlib import Path
 from typing import TYPE_CHECKING, Any, Optional, Union
 
 from ..public import public
 from ..searches.times import Time, ticks_of_time
+from ..seen.vectors import Floats
 from ..sky.place import PlaceLike
 from .cache import Kept
 from .fitting import FitError
+from .named import words_of_request
 
 if TYPE_CHECKING:
     from ..sky.sky import Sky
@@ -31,7 +33,7 @@ class Ephemeris:
 
     >>> eph = Ephemeris.open("examples/de405-2000.asc", "2000-05-01", "2000-06-01")
     >>> eph
-    <Ephemeris of 2000-04-14T12:00:00 to 2000-06-17T12:00:00 (TDB): mercury, venus, .., sun, earth, ssb>
+    <Ephemeris of 2000-04-30T00:00:00 to 2000-07-03T00:00:00 (TDB): mercury, venus, .., sun, earth, ssb>
     """
 
     def __init__(self, kept: Kept) -> None:
@@ -47,7 +49,22 @@ class Ephemeris:
         bodies: Bodies = None,
         cache: bool = True,
     ) -> Ephemeris:
-        """The ephemeris of a source, clipped to the blocks of a span."""
+        """The ephemeris of a source, clipped to the blocks of the span from `start` to `end`, times of TDB of any usual
+        form, with a day around them. A search that names no span is of this one.
+
+        A source is a file, a folder, a pattern, or several of these in any order: JPL's ASCII or binary files of DE, or
+        SPK kernels, each of them compressed by gzip, bzip2 or xz or not. What a file is, is told by its first bytes.
+        Files that the program reads as they are are not copied. Of kernels `bodies` are names, or NAIF's numbers, or
+        both in a dictionary; without it they are those of the columns of DE. Without `cache` the text is removed with
+        the object.
+
+        A `ValueError` names the body or the file, the span that there is, and what to do; an `ImportError` the package
+        that is missing, as jplephem for kernels.
+
+        >>> eph = Ephemeris.open(["examples/de405-2000.asc"], "2000-05-01", "2000-06-01")
+        >>> eph.start, eph.end, eph.asked
+        (10324800, 15854400, (10411200.0, 13089600.0))
+        """
         from .open import opened
 
         return cls(opened(source, seconds_of_time(start), seconds_of_time(end), bodies, cache))
@@ -62,8 +79,25 @@ class Ephemeris:
         tolerance: Union[None, float, Mapping[str, float]] = None,
         cache: bool = True,
     ) -> Ephemeris:
-        """The ephemeris of motions, each a function of seconds of TDB since J2000: an array of n in, kilometres out, 3
-        by n, or n numbers, a scalar, which stands on the axis x."""
+        """The ephemeris of up to eleven motions, fitted by Chebyshev series over the span from `start` to `end`.
+
+        Each is a function of seconds of TDB since J2000: an array of n in, kilometres out, 3 by n; or n numbers, a
+        scalar, which stands on the axis x, so that `coordinate` searches it. Or it is a vector function of Skyfield, a
+        `Satrec` of sgp4 (from the Earth's centre, on the axes of the GCRS), a `Star`, a `SkyCoord` of astropy or a
+        `Star` of Skyfield (a direction from the barycentre, at 10^9 km), or a table: seconds, kilometres and perhaps
+        km/s, 3 by n.
+
+        `tolerance` is in km, one or by name: a millimetre without it, and of directions a microarcsecond. A fit that
+        misses it is refused by body and time. Searches look from the origin of the functions.
+
+        >>> import numpy as np
+        >>> def probe(seconds):
+        ...     turn = 2 * np.pi * np.mod(seconds, 864_000) / 864_000
+        ...     return 1e6 * np.array([np.cos(turn), np.sin(turn), 0 * turn])
+        >>> eph = Ephemeris.fit({"probe": probe}, "2000-01-01", "2000-02-01")
+        >>> eph.names["probe"], eph.errors["probe"].largest_km < 1e-6
+        ('pluto', True)
+        """
         from .fit import fit
 
         first, last = seconds_of_time(start), seconds_of_time(end)
@@ -86,12 +120,41 @@ class Ephemeris:
         stars: Optional[Mapping[str, Any]] = None,
         cache: bool = True,
     ) -> Sky:
-        """The sky as it is seen from the Earth's centre or from a place on the Earth."""
+        """The sky as it is seen from the Earth's centre, or from a place on the Earth, from `start` to `end`: apparent
+        places, with the light's time, its bending by the Sun and aberration, of which each can be left out.
+
+        `axes` are those of the true `equator` or `ecliptic` of date, or those of `j2000`, the source's. The observer is
+        the origin, so that `observer="earth"`, the default, is the place. Ten bodies are seen at most: `bodies` names
+        them, and `stars` has a `Star`, a `SkyCoord`, a `Star` of Skyfield or a pair of degrees by name. A place has
+        `zenith` and `nadir` too. UT1 is by the table of the IERS, or `delta_t`, seconds of TT less UT1.
+
+        >>> eph = Ephemeris.open("examples/de405-2000.asc")
+        >>> sky = eph.sky("52.52 N 13.40 E", "2000-06-01", "2000-06-03", delta_t=64)
+        >>> sorted(sky.names)[:4], sky.errors["zenith"].largest_arcseconds < 1e-6
+        (['earth', 'jupiter', 'mars', 'mercury'], True)
+        """
         from ..sky.sky import Sky
         from .apparent_places import Model
 
         model = Model(light_time, bending, aberration, axes)
         return Sky.of(self, place, start, end, model, delta_t=delta_t, bodies=bodies, stars=stars, cache=cache)
+
+    def motion(self, body: str, observer: str = "ssb") -> Callable[[Any], Floats]:
+        """The places of a body from another in km, 3 by n, as a function of seconds of TDB since J2000: a motion that
+        `fit` takes beside others. It is in doubles, and NaN outside of the text.
+
+        >>> moon = Ephemeris.open("examples/de405-2000.asc").motion("moon", "earth")
+        >>> (moon([0.0]) ** 2).sum() ** 0.5 // 1
+        402448.0
+        """
+        from .series import Series
+
+        series, words = Series(self), words_of_request(self, {"target": body, "observer": observer})
+
+        def places(seconds: Any) -> Floats:
+            return series.body(words["target"], seconds) - series.body(words["observer"], seconds)
+
+        return places
 
     @property
     def files(self) -> tuple[str, ...]:

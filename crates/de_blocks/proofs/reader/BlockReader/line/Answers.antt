@@ -2,7 +2,7 @@ use Rattle.std.proofs.Common.{◌∷◌, sym, ◌∙◌, ap}
 use Rattle.spec_files.specs.FileLines.{line_of}
 use Rattle.de_blocks.specs.Reader.{Progress}
 use Rattle.de_blocks.proofs.Steps.{stays, tells}
-use Rattle.de_blocks.proofs.reader.BlockReader.read_line.Goals as goal
+use Rattle.de_blocks.proofs.reader.BlockReader.line.Goals as goal
 
 pub returns-in-Refused-clause-says : goal.returns-in-Refused-clause-says
 returns-in-Refused-clause-says c = λ known file rest.

@@ -9,6 +9,7 @@
 mod calls;
 mod edges;
 mod laws;
+mod memory_files;
 mod memory_shelf;
 mod memory_sink;
 mod system;
@@ -18,6 +19,7 @@ pub use laws::{
     counts_of_faults_stay_at_their_last_value, files_are_found_by_their_whole_name,
     reads_and_writes_are_as_long_as_can_be,
 };
+pub use memory_files::MemoryFiles;
 pub use memory_shelf::MemoryShelf;
 pub use memory_sink::{Memory, MemorySink};
-pub use system::{FileShelf, StdSink};
+pub use system::{FileShelf, OpenNamed, StdSink, SystemFiles};

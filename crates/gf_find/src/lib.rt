@@ -12,6 +12,7 @@ mod find;
 mod generated;
 mod laws;
 mod messages;
+mod runs;
 mod scalar;
 mod searched;
 mod set;
@@ -21,6 +22,7 @@ mod verify;
 mod writing;
 
 pub use laws::{a_run_has_one_outcome, the_number_of_workers_changes_no_byte};
+pub use runs::run;
 pub use spec_outcomes::{
     CERTIFICATE_REFUSED, EVENT_REFUSED, FILES_REFUSED, NOT_READ, NOT_WRITTEN, OUT_OF_MEMORY,
     REPORTED, Refusal, SPAN_REFUSED, Span, TOO_MANY_LEAVES, WORDS_REFUSED,

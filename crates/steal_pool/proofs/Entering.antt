@@ -19,7 +19,8 @@ use Rattle.steal_pool.specs.Workers.{Holder, IsSplit, on_deque, on_stack, taken_
 use Rattle.steal_pool.specs.declared.seat.Stop.{Stop}
 use Rattle.steal_pool.specs.declared.seat.Stop.TheVariants as S
 use Rattle.steal_pool.specs.Seats.{IfFull, IsFullOf, IsLike, SameSeat, Seat, Works, account_of, entered_by, stop_at, ways, with_refusal}
-use Rattle.steal_pool.proofs.Accounts.{Worked, entered_weigh, entered_weight, enter_works, idle_works, split_works, works_more}
+use Rattle.steal_pool.proofs.Accounts.{entered_weigh, entered_weight}
+use Rattle.steal_pool.proofs.Acting.{Worked, enter_works, idle_works, split_works, works_more}
 use Rattle.steal_pool.proofs.Stopping.{some_stop}
 
 -- ---- why a seat stops

@@ -6,7 +6,8 @@ use Rattle.spec_pool.specs.declared.ledger.SeatHistory.{SeatHistory}
 use Rattle.spec_pool.specs.Accounts.{Account}
 use Rattle.steal_pool.specs.Workers.{Holder, Takes, TakesInOrder, IsReopened, FindsNone}
 use Rattle.steal_pool.specs.Seats.{IsLike, account_of, Gets, ways}
-use Rattle.steal_pool.proofs.Accounts.{Worked, gets, none_works, takes_ways, takes_works}
+use Rattle.steal_pool.proofs.Accounts.{gets, takes_ways}
+use Rattle.steal_pool.proofs.Acting.{Worked, none_works, takes_works}
 
 abbrev pub Taken : Option Node → Holder → Holder → Type 0
 Taken r w v = MatchOption r (FindsNone w v) (λ n. Takes n w v)

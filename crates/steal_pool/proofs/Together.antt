@@ -110,7 +110,7 @@ begin_account t ledger root (s ∷ ss) some all = weighs_account t root (s ∷ s
 works_sums : (t : Rules) (s q : Seat) → Works t s q → (h : Leaf → ℕ)
     → entered_weight h q.part + own_weight t h q.worker + weigh (by_leaves t h) q.worker.own.view.put + taken_weight (by_leaves t h) s.worker
     ≡ entered_weight h s.part + own_weight t h s.worker + weigh (by_leaves t h) s.worker.own.view.put + taken_weight (by_leaves t h) q.worker
-works_sums t s q w h = let d = does t s.worker s.part q.worker q.part w in omega (
+works_sums t s q w h = let d = does t s.worker s.part q.worker q.part w.0 in omega (
   arith,
   ap (weigh (by_leaves t h)) d.3.0,
   weigh-append (by_leaves t h) s.worker.own.view.put d.0,

@@ -1,5 +1,5 @@
 -- A worker's seat at the pool: what it has and knows, what it entered, and what a piece of its work balances.
-use Rattle.std.specs.Prelude.{◌≡◌, ◌⊎◌, ◌≤◌, ℕ, List, [], ◌∷◌, ◌++◌, length, map, Option, Some, None, ⊤, IsPermutation}
+use Rattle.std.specs.Prelude.{◌≡◌, ◌⊎◌, ◌≤◌, ℕ, ◌==◌, List, [], ◌∷◌, ◌++◌, flat_map, length, map, Option, Some, None, ⊤, IsPermutation, if◌then◌else◌}
 use Rattle.atomic_table.specs.Seated.{TableId}
 use Rattle.spec_trees.specs.declared.tree.Node.{Node}
 use Rattle.spec_trees.specs.declared.tree.Leaf.{Leaf}
@@ -10,6 +10,7 @@ use Rattle.spec_pool.specs.declared.ledger.Entry.{Entry}
 use Rattle.spec_pool.specs.declared.ledger.Entry.TheVariants.{Entered, Again, Full as NoRoom, Memory as NoMemory}
 use Rattle.spec_pool.specs.History.{Fresh}
 use Rattle.spec_pool.specs.Accounts.{Account, Balances, EntersNode, KeepsRight, PutsRight, TakesNode, TakesTop}
+use Rattle.spec_pool.specs.Acts.{Act, History, takes_from}
 use Rattle.steal_pool.specs.declared.seat.PoolError.{PoolError}
 use Rattle.steal_pool.specs.declared.seat.PoolError.TheVariants as E
 use Rattle.steal_pool.specs.declared.seat.Stop.{Stop}
@@ -21,23 +22,25 @@ use Rattle.steal_pool.specs.Workers.{Holder, IsNew, taken_by}
 abbrev pub rules_within : Rules → Node → Rules
 rules_within t root = record { first = root.a; last = root.b; deepest = t.deepest; verdict = t.verdict; parts = t.parts }
 
--- the worker, its part of the ledger's history, the table and the terms of the ledger, and why it stopped
+-- the worker, its part of the ledger's history, the table and the terms of the ledger, why it stopped, and how many steal
+-- attempts it has made
 pub record Seat : Type 0 where
   pub worker : Holder
   pub part : SeatHistory
   pub table : TableId
   pub terms : LedgerTerms
   pub refusal : Option Stop
+  pub tried : ℕ
 
-abbrev pub seat_of : Holder → SeatHistory → TableId → LedgerTerms → Option Stop → Seat
-seat_of worker part table terms refusal =
-    record { worker = worker; part = part; table = table; terms = terms; refusal = refusal }
+abbrev pub seat_of : Holder → SeatHistory → TableId → LedgerTerms → Option Stop → ℕ → Seat
+seat_of worker part table terms refusal tried =
+    record { worker = worker; part = part; table = table; terms = terms; refusal = refusal; tried = tried }
 
 abbrev pub with_worker : Seat → Holder → Seat
-with_worker s w = seat_of w s.part s.table s.terms s.refusal
+with_worker s w = seat_of w s.part s.table s.terms s.refusal s.tried
 
 abbrev pub with_refusal : Seat → Option Stop → Seat
-with_refusal s refusal = seat_of s.worker s.part s.table s.terms refusal
+with_refusal s refusal = seat_of s.worker s.part s.table s.terms refusal s.tried
 
 abbrev pub IsHolding : Seat → Type 0
 IsHolding s = (n : Node) × (s.worker.hand ≡ Some n)
@@ -78,9 +81,20 @@ Splits t s s' = ((right : Node) × Changes (PutsRight t right) s s') ⊎ ((64 �
 abbrev pub Steps : Rules → Seat → Seat → Type 0
 Steps t s s' = Changes (EntersNode t) s s' ⊎ Splits t s s'
 
--- the seat's account balances over a piece of work
+-- what a worker's ends of the deque of worker k have taken
+abbrev pub taken_off : ℕ → Holder → List Node
+taken_off k w = flat_map (λ e. if e.worker == k then e.view.taken else []) (w.own ∷ w.stealers)
+
+-- the seat's account goes through these acts, one after the other, and what its ends took from each deque is what the acts
+-- take from there
+abbrev pub Acted : Rules → List Act → Seat → Seat → Type 0
+Acted t acts s s' =
+    Changes (λ a b. History t a acts b) s s'
+    × ((k : ℕ) → IsPermutation (taken_off k s.worker ++ flat_map (takes_from k) acts) (taken_off k s'.worker))
+
+-- a piece of work is some acts, one after the other, and the seat's account balances over it
 abbrev pub Works : Rules → Seat → Seat → Type 0
-Works t s s' = Changes (Balances t) s s'
+Works t s s' = Changes (Balances t) s s' × ((acts : List Act) × Acted t acts s s')
 
 -- ---- what stays
 -- whose deque an end is of, and which deque that is

@@ -11,7 +11,7 @@ ghost use Rattle.steal_pool.specs.Stealers.{Linking, Links, LinksOther, Opens, g
 
 use crate::adding::add_item;
 use crate::seat::PoolSeat;
-use crate::stealer::Stealer;
+use crate::stealer::{Attempts, Stealer};
 use crate::view::Naming;
 use crate::worker::Worker;
 use gf_edges::Gate;
@@ -43,6 +43,7 @@ impl<'p, N: Naming, J: Judge, G: Gate> PoolSeat<'p, N, J, G> {
             worker,
             entries,
             refusal: None,
+            attempts: Attempts::new(),
             judge,
             ledger,
             gate,

@@ -2,6 +2,7 @@
 ghost use Rattle.std.specs.Prelude.{◌≡◌};
 ghost use Rattle.steal_pool.specs.Seats.{error_of};
 
+use crate::stealer::Attempts;
 use crate::view::Naming;
 use crate::worker::Worker;
 use gf_edges::Gate;
@@ -45,6 +46,7 @@ pub struct PoolSeat<'p, N: Naming, J: Judge, G: Gate> {
     pub(crate) worker: Worker<N>,
     pub(crate) entries: LedgerSeat,
     pub(crate) refusal: Option<Stop>,
+    pub(crate) attempts: Attempts,
     pub(crate) judge: &'p J,
     pub(crate) ledger: &'p SpanLedger,
     pub(crate) gate: &'p G,
@@ -59,7 +61,7 @@ impl<'p, N: Naming, J: Judge, G: Gate> Model for PoolSeat<'p, N, J, G> {
     ghost Value = { Seat };
 
     ghost view = { λ s. seat_of s.worker (part s.entries) (table_of s.ledger.now)
-        (terms s.ledger.now) s.refusal };
+        (terms s.ledger.now) s.refusal s.attempts.made };
 
     ghost invariant = { λ s.
         (N.rules ≡ rules_within (J.rules s.judge.now) (terms s.ledger.now).root)

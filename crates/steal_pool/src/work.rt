@@ -1,5 +1,5 @@
 // What a seat does: it puts the right part of a node away, takes the next node, and works until it finds none.
-ghost use Rattle.std.specs.Prelude.{◌≡◌, ◌<◌, ◌+◌, [], Some, None, IfSome, IfNone, MatchOption, OnOk, IfErr, length};
+ghost use Rattle.std.specs.Prelude.{◌≡◌, ◌<◌, ◌≤◌, ◌+◌, [], Some, None, IfSome, IfNone, MatchOption, OnOk, IfErr, length};
 ghost use Rattle.spec_trees.specs.declared.tree.Node.{Node};
 ghost use Rattle.spec_trees.specs.Tree.{IsLeaf, IsValid, mark_of};
 ghost use Rattle.spec_trees.specs.declared.tree.Verdict.TheVariants.{Split};
@@ -74,8 +74,9 @@ impl<'p, N: Naming, J: Judge, G: Gate> PoolSeat<'p, N, J, G> {
         ensures works { Works N.rules self.old self.new }
         ensures same { SameSeat self.old self.new }
         ensures refusal { self.new.refusal ≡ self.old.refusal }
+        ensures few { self.new.tried ≤ self.old.tried + 10000 }
     {
-        self.worker.take()
+        self.worker.take(&mut self.attempts)
     }
 
     /// Returns the node in the seat's hand, or none if the hand is empty. `push` takes the right part of this node.

@@ -15,6 +15,7 @@ use Rattle.spec_pool.proofs.Finding.{nodes_permuted, leaves_permuted}
 use Rattle.spec_pool.proofs.Weights.{weigh, weigh-append, weigh-push, weigh-flat, weigh-set}
 use Rattle.steal_pool.specs.Rule.{End, takes_one}
 use Rattle.steal_pool.specs.Workers.{Holder, holder_of, taken_by, after_empty_pop, on_deque, on_stack, with_hand, IsSplit, Takes, TakesInOrder, TakesKept, TakesOwn, TakesOther, FindsNone}
+use Rattle.steal_pool.specs.Rounds.{Counts, round, rounds_in}
 use Rattle.steal_pool.specs.Seats.{IsLike, account_of, entered_by, taken_off}
 use Rattle.steal_pool.proofs.Accounts as A
 use Rattle.steal_pool.proofs.Accounts.{Weighs, entered_weight, entered_weigh, keeps_right, like_itself, puts_right, same_weights, taken_more, taken_weigh}
@@ -108,8 +109,26 @@ ActedBy t acts w p v q =
     ((b : Account) × History t (account_of w p) acts b × IsLike b (account_of v q))
     × ((k : ℕ) → IsPermutation (taken_off k w ++ flat_map (takes_from k) acts) (taken_off k v))
 
-abbrev pub Worked : Rules → Holder → SeatHistory → Holder → SeatHistory → Type 0
-Worked t w p v q = Weighs t w p v q × ((acts : List Act) × ActedBy t acts w p v q)
+-- some acts of so many rounds
+abbrev Acts : Rules → ℕ → Holder → SeatHistory → Holder → SeatHistory → Type 0
+Acts t n w p v q = (acts : List Act) × (ActedBy t acts w p v q × (rounds_in acts ≡ n))
+
+abbrev pub Worked : Rules → ℕ → Holder → SeatHistory → Holder → SeatHistory → Type 0
+Worked t n w p v q = Weighs t w p v q × Acts t n w p v q
+
+-- some acts, and a counter that tells their rounds
+abbrev pub CountedBy : Rules → List Act → Holder → SeatHistory → ℕ → Holder → SeatHistory → ℕ → Type 0
+CountedBy t acts w p a v q b =
+    ((x : Account) × History t (account_of w p) acts x × IsLike x (account_of v q))
+    × ((k : ℕ) → IsPermutation (taken_off k w ++ flat_map (takes_from k) acts) (taken_off k v))
+    × Counts (rounds_in acts) a b
+
+abbrev pub WorksBy : Rules → Holder → SeatHistory → ℕ → Holder → SeatHistory → ℕ → Type 0
+WorksBy t w p a v q b = Weighs t w p v q × ((acts : List Act) × CountedBy t acts w p a v q b)
+
+rounds_more : (xs ys : List Act) → rounds_in (xs ++ ys) ≡ rounds_in xs + rounds_in ys
+rounds_more [] ys = omega arith
+rounds_more (x ∷ xs) ys = omega (arith, rounds_more xs ys)
 
 acted_more : (t : Rules) (xs ys : List Act) (w : Holder) (p : SeatHistory) (v : Holder) (q : SeatHistory) (u : Holder) (r : SeatHistory) → ActedBy t xs w p v q → ActedBy t ys v q u r → ActedBy t (xs ++ ys) w p u r
 acted_more t xs ys w p v q u r x y =
@@ -128,48 +147,55 @@ acted_more t xs ys w p v q u r x y =
       ))),
     )
 
-pub works_more : (t : Rules) (w : Holder) (p : SeatHistory) (v : Holder) (q : SeatHistory) (u : Holder) (r : SeatHistory) → Worked t w p v q → Worked t v q u r → Worked t w p u r
-works_more t w p v q u r x y = (A.works_more t w p v q u r x.0 y.0, (x.1.0 ++ y.1.0, acted_more t x.1.0 y.1.0 w p v q u r x.1.1 y.1.1))
+pub works_more : (t : Rules) (m n : ℕ) (w : Holder) (p : SeatHistory) (v : Holder) (q : SeatHistory) (u : Holder) (r : SeatHistory) → Worked t m w p v q → Worked t n v q u r → Worked t (m + n) w p u r
+works_more t m n w p v q u r (x, (xs, (a, i))) (y, (ys, (b, j))) =
+    (A.works_more t w p v q u r x y, (xs ++ ys, (acted_more t xs ys w p v q u r a b, omega (arith, i, j, rounds_more xs ys))))
 
 same_list : {X : Type 0} (xs ys : List X) → ys ≡ xs → IsPermutation xs ys
 same_list {X = X} xs ys e = subst (λ (l : List X). IsPermutation xs l) (sym e) (IsPermutation-refl xs)
 
 -- nothing but the part's other lists, and the count of nodes put, has changed
-pub idle_works : (t : Rules) (w : Holder) (p : SeatHistory) (v : Holder) (q : SeatHistory) → v.own ≡ w.own → v.stealers ≡ w.stealers → v.hand ≡ w.hand → v.kept ≡ w.kept → q.mine ≡ p.mine → q.again ≡ p.again → Worked t w p v q
+pub idle_works : (t : Rules) (w : Holder) (p : SeatHistory) (v : Holder) (q : SeatHistory) → v.own ≡ w.own → v.stealers ≡ w.stealers → v.hand ≡ w.hand → v.kept ≡ w.kept → q.mine ≡ p.mine → q.again ≡ p.again → Worked t 0 w p v q
 idle_works t w p v q own stealers hand kept mine again = (
   A.idle_works t w p v q own stealers hand kept mine again,
   (
     [],
     (
       (
-        account_of w p,
-        refl,
-        record {
-          hand = hand;
-          kept = kept;
-          put = ap (λ (e : End). e.view.put) own;
-          taken = same_list (taken_by w) (taken_by v) (λ i. (own i).view.taken ++ flat_map (λ (e : End). e.view.taken) (stealers i));
-          entered = same_list (entered_by p) (entered_by q) (λ i. map (λ (e : Booked). e.leaf) (mine i) ++ again i);
-        },
+        (
+          account_of w p,
+          refl,
+          record {
+            hand = hand;
+            kept = kept;
+            put = ap (λ (e : End). e.view.put) own;
+            taken = same_list (taken_by w) (taken_by v) (λ i. (own i).view.taken ++ flat_map (λ (e : End). e.view.taken) (stealers i));
+            entered = same_list (entered_by p) (entered_by q) (λ i. map (λ (e : Booked). e.leaf) (mine i) ++ again i);
+          },
+        ),
+        (λ k. same_list (taken_off k w ++ []) (taken_off k v) ((λ i. flat_map (λ (e : End). if e.worker == k then e.view.taken else []) (own i ∷ stealers i)) ∙ sym (append-nil (taken_off k w)))),
       ),
-      (λ k. same_list (taken_off k w ++ []) (taken_off k v) ((λ i. flat_map (λ (e : End). if e.worker == k then e.view.taken else []) (own i ∷ stealers i)) ∙ sym (append-nil (taken_off k w)))),
+      refl,
     ),
   ),
 )
 
 -- one act
 one_act : (t : Rules) (act : Act) (w : Holder) (p : SeatHistory) (v : Holder) (q : SeatHistory) (b : Account) → Does t act (account_of w p) b → IsLike b (account_of v q)
-    → ((k : ℕ) (h : Node → ℕ) → weigh h (taken_off k v) ≡ weigh h (taken_off k w) + weigh h (takes_from k act)) → (acts : List Act) × ActedBy t acts w p v q
+    → ((k : ℕ) (h : Node → ℕ) → weigh h (taken_off k v) ≡ weigh h (taken_off k w) + weigh h (takes_from k act)) → Acts t (round act) w p v q
 one_act t act w p v q b d like taken = (
   act ∷ [],
   (
-    (b, (b, d, refl), like),
-    (λ k. nodes_permuted (taken_off k w ++ flat_map (takes_from k) (act ∷ [])) (taken_off k v) (λ h. omega (
-      arith,
-      taken k h,
-      weigh-append h (taken_off k w) (flat_map (takes_from k) (act ∷ [])),
-      ap (weigh h) (append-nil (takes_from k act)),
-    ))),
+    (
+      (b, (b, d, refl), like),
+      (λ k. nodes_permuted (taken_off k w ++ flat_map (takes_from k) (act ∷ [])) (taken_off k v) (λ h. omega (
+        arith,
+        taken k h,
+        weigh-append h (taken_off k w) (flat_map (takes_from k) (act ∷ [])),
+        ap (weigh h) (append-nil (takes_from k act)),
+      ))),
+    ),
+    omega arith,
   ),
 )
 
@@ -222,49 +248,46 @@ node_taken n w v p none hand kept put takes = (
   },
 )
 
-abbrev Acts : Rules → Holder → SeatHistory → Holder → SeatHistory → Type 0
-Acts t w p v q = (acts : List Act) × ActedBy t acts w p v q
-
-own_acts : (t : Rules) (n : Node) (w v : Holder) (p : SeatHistory) → w.hand ≡ None → TakesOwn n w v → Acts t w p v p
+own_acts : (t : Rules) (n : Node) (w v : Holder) (p : SeatHistory) → w.hand ≡ None → TakesOwn n w v → Acts t 0 w p v p
 own_acts t n w v p none e =
     let taken = node_taken n w v p none (ap (λ (u : Holder). u.hand) e) (ap (λ (u : Holder). u.kept) e) (ap (λ (u : Holder). u.own.view.put) e) (inl e) in
     one_act t (Take w.own.worker n) w p v p taken.0 taken.1 taken.2 (own_off n w v e)
 
-top_acts : (t : Rules) (n : Node) (w v : Holder) (p : SeatHistory) → w.hand ≡ None → TakesKept n w v → Acts t w p v p
+top_acts : (t : Rules) (n : Node) (w v : Holder) (p : SeatHistory) → w.hand ≡ None → TakesKept n w v → Acts t 0 w p v p
 top_acts t n w v p none (rest, top, e) =
     one_act t TakeTop w p v p (account_of v p) (record { node = n; rest = rest; empty = none; top = top; after = ap (λ (u : Holder). account_of u p) e }) (like_itself (account_of v p))
     (λ k h. omega (arith, ap (λ (u : Holder). weigh h (taken_off k u)) e))
 
-in_order_acts : (t : Rules) (n : Node) (w v : Holder) (p : SeatHistory) → w.hand ≡ None → TakesInOrder n w v → Acts t w p v p
+in_order_acts : (t : Rules) (n : Node) (w v : Holder) (p : SeatHistory) → w.hand ≡ None → TakesInOrder n w v → Acts t 0 w p v p
 in_order_acts t n w v p none (inl top) = top_acts t n w v p none top
 in_order_acts t n w v p none (inr (inl (empty, oldest, e))) = own_acts t n w v p none e
 in_order_acts t n w v p none (inr (inr (empty, used, (es, (i, f, at, is), e)))) =
     let taken = node_taken n w v p none (ap (λ (u : Holder). u.hand) e) (ap (λ (u : Holder). u.kept) e) (ap (λ (u : Holder). u.own.view.put) e) (inr (es, (i, f, at, is), e)) in
     one_act t (Take f.worker n) w p v p taken.0 taken.1 taken.2 (other_off n w v es i f at is e)
 
-takes_acts : (t : Rules) (n : Node) (w v : Holder) (p : SeatHistory) → w.hand ≡ None → Takes n w v → Acts t w p v p
+takes_acts : (t : Rules) (n : Node) (w v : Holder) (p : SeatHistory) → w.hand ≡ None → Takes n w v → Acts t 0 w p v p
 takes_acts t n w v p none (inl o) = in_order_acts t n w v p none o
 takes_acts t n w v p none (inr (inl (filled, oldest, e))) = own_acts t n w v p none e
 takes_acts t n w v p none (inr (inr (filled, used, o))) = in_order_acts t n (after_empty_pop w) v p none o
 
-pub takes_works : (t : Rules) (n : Node) (w v : Holder) (p : SeatHistory) → w.hand ≡ None → Takes n w v → Worked t w p v p
+pub takes_works : (t : Rules) (n : Node) (w v : Holder) (p : SeatHistory) → w.hand ≡ None → Takes n w v → Worked t 0 w p v p
 takes_works t n w v p none takes = (A.takes_works t n w v p none takes, takes_acts t n w v p none takes)
 
-pub none_works : (t : Rules) (w v : Holder) (p : SeatHistory) → FindsNone w v → Worked t w p v p
+pub none_works : (t : Rules) (w v : Holder) (p : SeatHistory) → FindsNone w v → Worked t 0 w p v p
 none_works t w v p f = idle_works t w p v p
     (ap (λ (u : Holder). u.own) f.2) (ap (λ (u : Holder). u.stealers) f.2) (ap (λ (u : Holder). u.hand) f.2) (ap (λ (u : Holder). u.kept) f.2) refl refl
 
-split_acts : (t : Rules) (w v : Holder) (p : SeatHistory) (left right : Node) → IsSplit t w left right → (v ≡ on_deque w left right) ⊎ (v ≡ on_stack w left right) → Acts t w p v p
+split_acts : (t : Rules) (w v : Holder) (p : SeatHistory) (left right : Node) → IsSplit t w left right → (v ≡ on_deque w left right) ⊎ (v ≡ on_stack w left right) → Acts t 1 w p v p
 split_acts t w v p left right split (inl e) =
     one_act t (Put right) w p v p (account_of v p) (puts_right t w v p left right split e) (like_itself (account_of v p)) (λ k h. omega (arith, ap (λ (u : Holder). weigh h (taken_off k u)) e))
 split_acts t w v p left right split (inr e) =
     one_act t Keep w p v p (account_of v p) (keeps_right t w v p left right split e) (like_itself (account_of v p)) (λ k h. omega (arith, ap (λ (u : Holder). weigh h (taken_off k u)) e))
 
-pub split_works : (t : Rules) (w v : Holder) (p : SeatHistory) (left right : Node) → IsSound t → ((n : Node) → w.hand ≡ Some n → IsValid t n) → IsSplit t w left right → (v ≡ on_deque w left right) ⊎ (v ≡ on_stack w left right) → Worked t w p v p
+pub split_works : (t : Rules) (w v : Holder) (p : SeatHistory) (left right : Node) → IsSound t → ((n : Node) → w.hand ≡ Some n → IsValid t n) → IsSplit t w left right → (v ≡ on_deque w left right) ⊎ (v ≡ on_stack w left right) → Worked t 1 w p v p
 split_works t w v p left right sound valid split goes = (A.split_works t w v p left right sound valid split goes, split_acts t w v p left right split goes)
 
 -- a leaf is entered
-enter_acts : (t : Rules) (w v : Holder) (p q : SeatHistory) (n : Node) (m : Mark) → mark_of (t.verdict n) ≡ Some m → w.hand ≡ Some n → v ≡ with_hand w None → ((h : Leaf → ℕ) → entered_weight h q ≡ entered_weight h p + h (leaf_of n m)) → Acts t w p v q
+enter_acts : (t : Rules) (w v : Holder) (p q : SeatHistory) (n : Node) (m : Mark) → mark_of (t.verdict n) ≡ Some m → w.hand ≡ Some n → v ≡ with_hand w None → ((h : Leaf → ℕ) → entered_weight h q ≡ entered_weight h p + h (leaf_of n m)) → Acts t 1 w p v q
 enter_acts t w v p q n m marked hand e more =
     let leaf : Leaf = leaf_of n m in
     one_act t (Enter leaf) w p v q
@@ -280,5 +303,5 @@ enter_acts t w v p q n m marked hand e more =
     (λ k h. omega (arith, ap (λ (u : Holder). weigh h (taken_off k u)) e))
 
 pub enter_works : (t : Rules) (w v : Holder) (p q : SeatHistory) (n : Node) (m : Mark) → IsSound t → IsValid t n → mark_of (t.verdict n) ≡ Some m → w.hand ≡ Some n → v ≡ with_hand w None
-    → ((h : Leaf → ℕ) → entered_weight h q ≡ entered_weight h p + h (leaf_of n m)) → Worked t w p v q
+    → ((h : Leaf → ℕ) → entered_weight h q ≡ entered_weight h p + h (leaf_of n m)) → Worked t 1 w p v q
 enter_works t w v p q n m sound valid marked hand e more = (A.enter_works t w v p q n m sound valid marked hand e more, enter_acts t w v p q n m marked hand e more)

@@ -68,6 +68,7 @@ opened_begins ledger root k e s is o =
       table = o.2;
       terms = o.3;
       refusal = o.4;
+      rounds = o.5;
     }
 
 pub opens_by : (ledger : SpanLedger) (root : Node) (e : LedgerSeat) (s : Seat) (hand : Option Node) (number : ℕ) → number ≡ (part e).number → hand ≡ first_hand root number
@@ -113,7 +114,7 @@ module _ (ledger : SpanLedger) (root : Node) (es : List LedgerSeat) (ss : List S
 
 -- ---- a stealer is made
 lent_begins : (ledger : SpanLedger) (k : ℕ) (held : Option Node) (s : Seat) → Begins ledger k held s → Begins ledger k held (lent s)
-lent_begins ledger k held s b = record { worker = b.worker; hand = b.hand; kept = b.kept; pushed_in_a_row = b.pushed_in_a_row; put = b.put; taken = b.taken; part = b.part; table = b.table; terms = b.terms; refusal = b.refusal }
+lent_begins ledger k held s b = record { worker = b.worker; hand = b.hand; kept = b.kept; pushed_in_a_row = b.pushed_in_a_row; put = b.put; taken = b.taken; part = b.part; table = b.table; terms = b.terms; refusal = b.refusal; rounds = b.rounds }
 
 all_taken : List End → List Node
 all_taken es = flat_map (λ (x : End). x.view.taken) es
@@ -142,6 +143,7 @@ gained_begins ledger k held s e none b = record {
   table = b.table;
   terms = b.terms;
   refusal = b.refusal;
+  rounds = b.rounds;
 }
 
 module _ (ledger : SpanLedger) (root : Node) (n i j : ℕ) (ss qs : List Seat) (l : Linking ledger root n i j ss) (apart : i ≢ j) (x : Links i j ss qs) where

@@ -16,7 +16,7 @@ pub taken_gets : (r : Option Node) (w v : Holder) (p : SeatHistory) → w.hand �
 taken_gets None w v p none t = tt
 taken_gets (Some n) w v p none t = gets n w v p none t
 
-pub taken_works : (t : Rules) (r : Option Node) (w v : Holder) (p : SeatHistory) → w.hand ≡ None → Taken r w v → Worked t w p v p
+pub taken_works : (t : Rules) (r : Option Node) (w v : Holder) (p : SeatHistory) → w.hand ≡ None → Taken r w v → Worked t 0 w p v p
 taken_works t None w v p none f = none_works t w v p f
 taken_works t (Some n) w v p none f = takes_works t n w v p none f
 

@@ -1,5 +1,6 @@
 pub mod Rule
 pub mod Workers
+pub mod Rounds
 pub mod Seats
 pub mod Pools
 pub mod Runs

@@ -86,7 +86,7 @@ pub record CanMake (t r : Rules) (ledger : SpanLedger) (es : List LedgerSeat) (r
 abbrev pub first_hand : Node → ℕ → Option Node
 first_hand root k = if k == 0 then Some root else None
 
--- a seat of the ledger that has the number k and this in its hand, and has put, taken and entered nothing
+-- a seat of the ledger that has the number k and this in its hand, has put, taken and entered nothing, and counts from 0
 pub record Begins (ledger : SpanLedger) (k : ℕ) (node : Option Node) (s : Seat) : Type 0 where
   pub worker : s.worker.own.worker ≡ k
   pub hand : s.worker.hand ≡ node
@@ -98,6 +98,7 @@ pub record Begins (ledger : SpanLedger) (k : ℕ) (node : Option Node) (s : Seat
   pub table : s.table ≡ table_of ledger
   pub terms : s.terms ≡ terms ledger
   pub refusal : s.refusal ≡ None
+  pub rounds : s.rounds ≡ 0
 
 -- each seat has its place as its number; the root is in the hand of the first, and all else is empty
 abbrev pub AllBegin : SpanLedger → Node → List Seat → Type 0

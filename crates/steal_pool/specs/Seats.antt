@@ -16,14 +16,15 @@ use Rattle.steal_pool.specs.declared.seat.PoolError.TheVariants as E
 use Rattle.steal_pool.specs.declared.seat.Stop.{Stop}
 use Rattle.steal_pool.specs.declared.seat.Stop.TheVariants.{Full, Memory}
 use Rattle.steal_pool.specs.Rule.{DequeId, End}
+use Rattle.steal_pool.specs.Rounds.{Counts, rounds_in}
 use Rattle.steal_pool.specs.Workers.{Holder, IsNew, taken_by}
 
 -- the rules by which the valid nodes are those that lie in the root
 abbrev pub rules_within : Rules → Node → Rules
 rules_within t root = record { first = root.a; last = root.b; deepest = t.deepest; verdict = t.verdict; parts = t.parts }
 
--- the worker, its part of the ledger's history, the table and the terms of the ledger, why it stopped, and how many steal
--- attempts it has made
+-- the worker, its part of the ledger's history, the table and the terms of the ledger, why it stopped, how many steal
+-- attempts it has made, and its counter of the nodes that it has split or entered
 pub record Seat : Type 0 where
   pub worker : Holder
   pub part : SeatHistory
@@ -31,16 +32,17 @@ pub record Seat : Type 0 where
   pub terms : LedgerTerms
   pub refusal : Option Stop
   pub tried : ℕ
+  pub rounds : ℕ
 
-abbrev pub seat_of : Holder → SeatHistory → TableId → LedgerTerms → Option Stop → ℕ → Seat
-seat_of worker part table terms refusal tried =
-    record { worker = worker; part = part; table = table; terms = terms; refusal = refusal; tried = tried }
+abbrev pub seat_of : Holder → SeatHistory → TableId → LedgerTerms → Option Stop → ℕ → ℕ → Seat
+seat_of worker part table terms refusal tried rounds =
+    record { worker = worker; part = part; table = table; terms = terms; refusal = refusal; tried = tried; rounds = rounds }
 
 abbrev pub with_worker : Seat → Holder → Seat
-with_worker s w = seat_of w s.part s.table s.terms s.refusal s.tried
+with_worker s w = seat_of w s.part s.table s.terms s.refusal s.tried s.rounds
 
 abbrev pub with_refusal : Seat → Option Stop → Seat
-with_refusal s refusal = seat_of s.worker s.part s.table s.terms refusal s.tried
+with_refusal s refusal = seat_of s.worker s.part s.table s.terms refusal s.tried s.rounds
 
 abbrev pub IsHolding : Seat → Type 0
 IsHolding s = (n : Node) × (s.worker.hand ≡ Some n)
@@ -85,12 +87,13 @@ Steps t s s' = Changes (EntersNode t) s s' ⊎ Splits t s s'
 abbrev pub taken_off : ℕ → Holder → List Node
 taken_off k w = flat_map (λ e. if e.worker == k then e.view.taken else []) (w.own ∷ w.stealers)
 
--- the seat's account goes through these acts, one after the other, and what its ends took from each deque is what the acts
--- take from there
+-- the seat's account goes through these acts, one after the other; what its ends took from each deque is what the acts
+-- take from there; and its counter tells how many of the acts split a node or enter it
 abbrev pub Acted : Rules → List Act → Seat → Seat → Type 0
 Acted t acts s s' =
     Changes (λ a b. History t a acts b) s s'
     × ((k : ℕ) → IsPermutation (taken_off k s.worker ++ flat_map (takes_from k) acts) (taken_off k s'.worker))
+    × Counts (rounds_in acts) s.rounds s'.rounds
 
 -- a piece of work is some acts, one after the other, and the seat's account balances over it
 abbrev pub Works : Rules → Seat → Seat → Type 0
@@ -160,7 +163,7 @@ IsNamed t r root = (t ≡ rules_within r root) × IsValid r root
 -- a seat that has done nothing yet, with this in its hand
 abbrev pub NewSeat : SeatHistory → TableId → LedgerTerms → Option Node → Seat → Type 0
 NewSeat part table terms hand s =
-    IsNew part.number hand s.worker × (s.part ≡ part) × (s.table ≡ table) × (s.terms ≡ terms) × (s.refusal ≡ None)
+    IsNew part.number hand s.worker × (s.part ≡ part) × (s.table ≡ table) × (s.terms ≡ terms) × (s.refusal ≡ None) × (s.rounds ≡ 0)
 
 -- a seat as `work` leaves it: it holds nothing, or keeps why it stopped, with a leaf only where it is full
 pub record IsLeft (t : Rules) (s : Seat) : Type 0 where

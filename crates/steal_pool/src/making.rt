@@ -44,6 +44,7 @@ impl<'p, N: Naming, J: Judge, G: Gate> PoolSeat<'p, N, J, G> {
             entries,
             refusal: None,
             attempts: Attempts::new(),
+            rounds: 0,
             judge,
             ledger,
             gate,

@@ -47,6 +47,7 @@ pub struct PoolSeat<'p, N: Naming, J: Judge, G: Gate> {
     pub(crate) entries: LedgerSeat,
     pub(crate) refusal: Option<Stop>,
     pub(crate) attempts: Attempts,
+    pub(crate) rounds: u64,
     pub(crate) judge: &'p J,
     pub(crate) ledger: &'p SpanLedger,
     pub(crate) gate: &'p G,
@@ -61,7 +62,7 @@ impl<'p, N: Naming, J: Judge, G: Gate> Model for PoolSeat<'p, N, J, G> {
     ghost Value = { Seat };
 
     ghost view = { λ s. seat_of s.worker (part s.entries) (table_of s.ledger.now)
-        (terms s.ledger.now) s.refusal s.attempts.made };
+        (terms s.ledger.now) s.refusal s.attempts.made s.rounds };
 
     ghost invariant = { λ s.
         (N.rules ≡ rules_within (J.rules s.judge.now) (terms s.ledger.now).root)

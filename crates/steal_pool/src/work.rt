@@ -13,7 +13,7 @@ ghost use Rattle.steal_pool.specs.declared.seat.Stop.TheVariants.{Memory as OutO
 
 use crate::seat::{PoolError, PoolSeat, Stop};
 use crate::view::Naming;
-use crate::worker::Pushed;
+use crate::worker::{Pushed, count_round};
 use gf_edges::Gate;
 use halving::{Judge, Mark, Node, rules_are_sound};
 use spec_pool::Entry;
@@ -55,7 +55,9 @@ impl<'p, N: Naming, J: Judge, G: Gate> PoolSeat<'p, N, J, G> {
             unreachable!()
         };
         let (left, _) = self.judge.cut(node);
-        self.worker.push(left, right)
+        let pushed = self.worker.push(left, right);
+        self.rounds = pushed.count(self.rounds);
+        pushed
     }
 
     /// Takes the next node into the empty hand: the top of the local stack, else the front of the own deque, else a
@@ -112,6 +114,7 @@ impl<'p, N: Naming, J: Judge, G: Gate> PoolSeat<'p, N, J, G> {
             Some(stop) => Err(stop),
             None => {
                 self.worker.clear_hand();
+                self.rounds = count_round(self.rounds);
                 Ok(())
             }
         }
@@ -133,7 +136,9 @@ impl<'p, N: Naming, J: Judge, G: Gate> PoolSeat<'p, N, J, G> {
     {
         rules_are_sound(self.judge);
         let (left, right) = self.judge.cut(node);
-        match self.worker.push(left, right) {
+        let pushed = self.worker.push(left, right);
+        self.rounds = pushed.count(self.rounds);
+        match pushed {
             Pushed::OnDeque => Ok(()),
             Pushed::Kept => Ok(()),
             Pushed::Memory(_) => Err(Stop::Memory),

@@ -4,6 +4,7 @@ ghost use Rattle.spec_trees.specs.declared.tree.Node.{Node};
 ghost use Rattle.spec_trees.specs.Tree.{IsSound, IsValid};
 ghost use Rattle.steal_pool.specs.Rule.{HasLeft, IsOldest, IsUsedUp};
 ghost use Rattle.steal_pool.specs.Workers.{FindsNone, HasFilled, IsNew, IsReopened, IsSplit, TookOne, Takes, TakesInOrder, TakesKept, TakesOther, TakesOwn, Gives, gains, joins, lends, after_empty_pop, new_stealer, on_deque, on_stack, with_hand};
+ghost use Rattle.steal_pool.specs.Rounds.{Counts, rounds_of_push};
 ghost use Rattle.steal_pool.specs.declared.worker.Pushed.TheVariants.{OnDeque, Kept, Memory as OutOfMemory};
 
 use crate::adding::add_item;
@@ -28,6 +29,26 @@ pub enum Pushed {
     OnDeque,
     Kept,
     Memory(Node),
+}
+
+// Adds one to a counter of rounds, which stays as it is once it is full.
+pub(crate) fn count_round(rounds: u64) -> u64
+    ensures { Counts 1 rounds result }
+{
+    rounds.saturating_add(1)
+}
+
+impl Pushed {
+    // Counts the push as a round of the worker, unless memory was out: then the counter stays as it was.
+    pub(crate) fn count(&self, rounds: u64) -> u64
+        ensures counts { Counts (rounds_of_push self.now) rounds result }
+        ensures same { (n : Node) → self.now ≡ OutOfMemory n → result ≡ rounds }
+    {
+        match self {
+            Pushed::OnDeque | Pushed::Kept => count_round(rounds),
+            Pushed::Memory(_) => rounds,
+        }
+    }
 }
 
 /// A worker and its deque, whose nodes leave in the order in which they came. Contracts see what it has, which deque

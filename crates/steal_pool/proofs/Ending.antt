@@ -16,8 +16,9 @@ use Rattle.span_ledger.specs.declared.desk.LedgerSeat.{LedgerSeat}
 use Rattle.span_ledger.specs.Seats.{part}
 use Rattle.steal_pool.specs.declared.seat.Stop.TheVariants.{Full, Memory}
 use Rattle.steal_pool.specs.Rule.{DequeId, End}
-use Rattle.steal_pool.specs.Seats.{IsFullOf, IsLeft, Seat, SeatLinks, entered_by, place_of, ways}
-use Rattle.steal_pool.specs.Pools.{AccountFor, AreLinked, ComeBack, IsLeftOver, IsRefused, KeepNone, NoneIsOutOfMemory, entered_in, own_of, stealers_on, right_of, seat_right, taken_of, ways_of_all}
+use Rattle.steal_pool.specs.Rounds.{Counts, tally}
+use Rattle.steal_pool.specs.Seats.{IsFullOf, IsLeft, Seat, SeatLinks, account, entered_by, place_of, ways}
+use Rattle.steal_pool.specs.Pools.{AccountFor, AreCounted, AreLinked, ComeBack, IsLeftOver, IsRefused, KeepNone, NoneIsOutOfMemory, entered_in, own_of, stealers_on, right_of, seat_right, taken_of, ways_of_all}
 use Rattle.steal_pool.specs.Stealers.{HasNoStealer, Joined, lasting}
 use Rattle.steal_pool.specs.Closing.{Drains, Ended, HasUsedUp, Leaves, SomeIsFull, worst_stop}
 use Rattle.steal_pool.proofs.Rule.{left_permuted}
@@ -25,6 +26,7 @@ use Rattle.steal_pool.proofs.Accounts.{entered_weigh, entered_weight, own_weight
 use Rattle.steal_pool.specs.Runs.{IsLater}
 use Rattle.steal_pool.proofs.Pooling.{later_same, same_linked}
 use Rattle.steal_pool.proofs.Together.{account_later, account_weighs, entered_sum, own_of_weigh, own_sum, put_sum, taken_of_weigh, taken_sum, weighs_account}
+use Rattle.steal_pool.proofs.Counting.{later_counted, same_count}
 use Rattle.steal_pool.proofs.Stopping.{full_stopped}
 use Rattle.steal_pool.proofs.Listing.{all_get, zip_all, zip_at, zip_map, map_all, map_at, map_from, weigh_none}
 
@@ -76,6 +78,20 @@ module _ (t : Rules) (ss us : List Seat) (j : Joined ss us) where
     taken_of_weigh (by_leaves t h) us,
   ))
 
+  joined_counted : AreCounted ss → AreCounted us
+  joined_counted a = record {
+    rounds = a.rounds;
+    tell = subst (λ (shown : List ℕ). AllZip (λ (n : ℕ) (r : ℕ). Counts n 0 r) a.rounds shown) (sym (lasting_map (λ (s : Seat). s.rounds))) a.tell;
+    sum = omega (
+      arith,
+      a.sum,
+      same_count (taken_of ss) (taken_of us) j.taken,
+      sum_is_weigh (λ (s : Seat). tally (account s)) ss,
+      sum_is_weigh (λ (s : Seat). tally (account s)) us,
+      lasting_weigh (λ (s : Seat). tally (account s)),
+    );
+  }
+
 -- ---- each worked
 later_none : (t : Rules) (s q : Seat) → IsLater t s q → HasNoStealer s → HasNoStealer q
 later_none t s q c none =
@@ -99,6 +115,7 @@ ended t ss us qs j linked none w = record {
   free = λ all. joined_free t ss us j (free_before w.refusals all);
   memory = λ all. joined_memory t ss us j (memory_before w.refusals all);
   account = λ root a. account_later t root us qs w.changes (joined_account t ss us j root a);
+  counted = λ a. later_counted t us qs w.changes (joined_counted t ss us j a);
 }
   where
     free_before : KeepNone us ⊎ (qs ≡ us) → KeepNone qs → KeepNone us
@@ -118,7 +135,7 @@ module _ (t : Rules) (ss qs : List Seat) (es : List LedgerSeat) (d : Ended t ss 
   pub come_back : ComeBack ss es
   come_back = zip_map Leaves right_of seat_right qs es (λ s e l. λ i. (l.table i, (l.part i).number)) b ∙ d.rights
 
-  entered_in_weigh : (h : Leaf → ℕ) → weigh h (entered_in es) ≡ entered_sum h qs
+  pub entered_in_weigh : (h : Leaf → ℕ) → weigh h (entered_in es) ≡ entered_sum h qs
   entered_in_weigh h = flat es ∙ same qs es b
     where
       flat : (fs : List LedgerSeat) → weigh h (entered_in fs) ≡ weigh (λ (e : LedgerSeat). entered_weight h (part e)) fs
@@ -136,13 +153,13 @@ module _ (t : Rules) (ss qs : List Seat) (es : List LedgerSeat) (d : Ended t ss 
       let f = map_from (λ (s : Seat). ways s.worker) qs k w at in
       sym (ap (λ (x : SeatLinks). x.others) f.2) ∙ ap (map place_of) (all_get HasNoStealer qs k f.0 d.none f.1)
 
-  none_made : (k : ℕ) (s : Seat) → slice_get qs k ≡ Some s → s.worker.own.view.made ≡ 0
+  pub none_made : (k : ℕ) (s : Seat) → slice_get qs k ≡ Some s → s.worker.own.view.made ≡ 0
   none_made k s at =
       d.linked.counted k (ways s.worker) (map_at (λ (x : Seat). ways x.worker) qs k s at)
       ∙ sum_is_weigh (stealers_on k) (ways_of_all qs)
       ∙ weigh_none (stealers_on k) (ways_of_all qs) (λ m v e. ap (sum_by (λ (stealer : ℕ × DequeId). if stealer.0 == k then 1 else 0)) (no_others m v e))
 
-  own_only : (h : Node → ℕ) (k : ℕ) (s : Seat) → slice_get qs k ≡ Some s → taken_weight h s.worker ≡ weigh h s.worker.own.view.taken
+  pub own_only : (h : Node → ℕ) (k : ℕ) (s : Seat) → slice_get qs k ≡ Some s → taken_weight h s.worker ≡ weigh h s.worker.own.view.taken
   own_only h k s at = omega (arith, ap (weigh (λ (e : End). weigh h e.view.taken)) (all_get HasNoStealer qs k s d.none at))
 
   -- what was put on a deque is what was taken from it and what is left there
@@ -160,7 +177,7 @@ sum_left (x ∷ xs) each =
     let more = sum_left xs (λ k s at. each (suc k) s at) in
     (one.0 ++ more.0, λ h. omega (arith, one.1 h, more.1 h, weigh-append h one.0 more.0))
 
-sum_used : (xs : List Seat) → ((k : ℕ) (s : Seat) → slice_get xs k ≡ Some s → (h : Node → ℕ) → weigh h s.worker.own.view.put ≡ taken_weight h s.worker) → (h : Node → ℕ) → put_sum h xs ≡ taken_sum h xs
+pub sum_used : (xs : List Seat) → ((k : ℕ) (s : Seat) → slice_get xs k ≡ Some s → (h : Node → ℕ) → weigh h s.worker.own.view.put ≡ taken_weight h s.worker) → (h : Node → ℕ) → put_sum h xs ≡ taken_sum h xs
 sum_used [] each h = refl
 sum_used (x ∷ xs) each h = omega (arith, each 0 x refl h, sum_used xs (λ k s at. each (suc k) s at) h)
 

@@ -1,18 +1,19 @@
 -- What the end of a pool's work comes to, by the worst of why its seats stopped.
-use Rattle.std.proofs.Common.{◌≡◌, List, Option, Some, None, Result, Ok, Err, IfOk, IfErr, IsPermutation, sym, subst, ◌∙◌}
+use Rattle.std.proofs.Common.{◌≡◌, ◌+◌, ◌*◌, List, Option, Some, None, Result, Ok, Err, IfOk, IfErr, IsPermutation, sym, subst, ◌∙◌}
 use Rattle.std.specs.List.{AllZip}
 use Rattle.spec_trees.specs.declared.tree.Node.{Node}
 use Rattle.spec_trees.specs.declared.tree.Leaf.{Leaf}
-use Rattle.spec_trees.specs.Tree.{Rules, leaves}
+use Rattle.spec_trees.specs.Tree.{IsSound, IsValid, Rules, leaf_count, leaves}
 use Rattle.span_ledger.specs.declared.desk.LedgerSeat.{LedgerSeat}
 use Rattle.steal_pool.specs.declared.finishing.FinishError.{FinishError}
 use Rattle.steal_pool.specs.declared.finishing.FinishError.TheVariants.{TooMany, Memory}
 use Rattle.steal_pool.specs.declared.seat.Stop.{Stop}
 use Rattle.steal_pool.specs.declared.seat.Stop.TheVariants.{Full}
 use Rattle.steal_pool.specs.Seats.{Seat}
-use Rattle.steal_pool.specs.Pools.{AccountFor, ComeBack, IfTooMany, IsLeftOver, IsRefused, KeepNone, NoneIsOutOfMemory, entered_in}
+use Rattle.steal_pool.specs.Pools.{AccountFor, AreCounted, ComeBack, IfTooMany, IsLeftOver, IsRefused, KeepNone, NoneIsOutOfMemory, entered_in, rounds_of}
 use Rattle.steal_pool.specs.Closing.{Ended, Leaves, SomeIsFull, worst_stop}
 use Rattle.steal_pool.proofs.Ending.{all_entered, come_back, some_left_over, some_refused, worst_is_full}
+use Rattle.steal_pool.proofs.RoundsEnd.{rounds_at_end}
 use Rattle.steal_pool.proofs.Stopping.{none_stopped}
 
 pub if_ok : {A E : Type 0} (r : Result A E) (P Q : A → Type 0) → IfOk r P → ((x : A) → P x → Q x) → IfOk r Q
@@ -36,6 +37,9 @@ module _ (t : Rules) (ss qs : List Seat) (es : List LedgerSeat) (worst : Option 
 
   pub all_back : (vs : List LedgerSeat) → vs ≡ es → worst ≡ None → (root : Node) → AccountFor t root ss → IsPermutation (entered_in vs) (leaves t root)
   all_back vs is e root a = subst (λ (xs : List LedgerSeat). IsPermutation (entered_in xs) (leaves t root)) (sym is) (all_entered t ss qs es d b (none e) root a)
+
+  pub rounds : worst ≡ None → (root : Node) → IsSound t → IsValid t root → AccountFor t root ss → AreCounted ss → (ended : List Seat) × Ended t ss ended × (rounds_of ended + 1 ≡ 2 * leaf_count t root)
+  rounds e root sound valid account counted = (qs, d, rounds_at_end t ss qs es d b (none e) root sound valid account counted)
 
   full : (leaf : Leaf) → worst ≡ Some (Full leaf) → NoneIsOutOfMemory qs × SomeIsFull t leaf qs
   full leaf e = worst_is_full t qs leaf d.left (sym w ∙ e)

@@ -79,10 +79,10 @@ module _ (t : Rules) (root : Node) (ss : List Seat) where
   weighs_account e = leaves_permuted had came (λ h. omega (arith, e h, had_weigh h, came_weigh h))
 
 -- ---- at the beginning
-hand_of_first : (k : ℕ) (root : Node) → k ≡ 0 → first_hand root k ≡ Some root
+pub hand_of_first : (k : ℕ) (root : Node) → k ≡ 0 → first_hand root k ≡ Some root
 hand_of_first k root e = grind (arith, nat_tests, e)
 
-hand_of_other : (k : ℕ) (root : Node) → 0 < k → first_hand root k ≡ None
+pub hand_of_other : (k : ℕ) (root : Node) → 0 < k → first_hand root k ≡ None
 hand_of_other k root e = grind (arith, nat_tests, e)
 
 begin_own : (t : Rules) (h : Leaf → ℕ) (ledger : SpanLedger) (root : Node) (k : ℕ) (s : Seat) → Begins ledger k (first_hand root k) s → 0 < k → own_weight t h s.worker ≡ 0

@@ -10,7 +10,7 @@ use Rattle.steal_pool.specs.declared.seat.Stop.{Stop}
 use Rattle.steal_pool.specs.declared.seat.Stop.TheVariants.{Full, Memory}
 use Rattle.steal_pool.specs.Rule.{HasLeft, IsUsedUp}
 use Rattle.steal_pool.specs.Seats.{IsFullOf, IsLeft, Seat}
-use Rattle.steal_pool.specs.Pools.{AccountFor, AreLinked, KeepNone, NoneIsOutOfMemory, right_of}
+use Rattle.steal_pool.specs.Pools.{AccountFor, AreCounted, AreLinked, KeepNone, NoneIsOutOfMemory, right_of}
 use Rattle.steal_pool.specs.Stealers.{HasNoStealer}
 use Rattle.steal_pool.specs.Runs.{IsLater}
 
@@ -38,6 +38,7 @@ pub record Ended (t : Rules) (ss qs : List Seat) : Type 0 where
   pub free : KeepNone qs → KeepNone ss
   pub memory : NoneIsOutOfMemory qs → NoneIsOutOfMemory ss
   pub account : (root : Node) → AccountFor t root ss → AccountFor t root qs
+  pub counted : AreCounted ss → AreCounted qs
 
 -- the worse of two stops: memory ran out, or else the first leaf for which the ledger was full
 abbrev pub worse : Option Stop → Option Stop → Option Stop

@@ -1,7 +1,7 @@
 -- The seats of one pool: how their stealers belong together, what they have and enter together, how they begin, and what
 -- comes back of them.
-use Rattle.std.specs.Prelude.{◌≡◌, ◌≢◌, ◌≤◌, ℕ, zero, suc, ◌==◌, List, [], ◌∷◌, ◌++◌, length, map, flat_map, sum_by, Option, Some, None, ⊤, if◌then◌else◌, slice_get, IsPermutation}
-use Rattle.std.specs.List.{AllByRecursion}
+use Rattle.std.specs.Prelude.{◌≡◌, ◌≢◌, ◌≤◌, ℕ, ◌+◌, zero, suc, ◌==◌, List, [], ◌∷◌, ◌++◌, length, map, flat_map, sum_by, Option, Some, None, ⊤, if◌then◌else◌, slice_get, IsPermutation}
+use Rattle.std.specs.List.{AllByRecursion, AllZip}
 use Rattle.atomic_table.specs.Seated.{TableId}
 use Rattle.spec_trees.specs.declared.tree.Node.{Node}
 use Rattle.spec_trees.specs.declared.tree.Leaf.{Leaf}
@@ -15,6 +15,7 @@ use Rattle.steal_pool.specs.declared.finishing.FinishError.{FinishError}
 use Rattle.steal_pool.specs.declared.finishing.FinishError.TheVariants.{TooMany, Memory}
 use Rattle.steal_pool.specs.declared.seat.Stop.TheVariants.{Memory as OutOfMemory}
 use Rattle.steal_pool.specs.Rule.{DequeId}
+use Rattle.steal_pool.specs.Rounds.{Counts, tally}
 use Rattle.steal_pool.specs.Workers.{taken_by}
 use Rattle.steal_pool.specs.Seats.{IsNamed, Seat, SeatLinks, account, entered_by, ways}
 
@@ -71,6 +72,21 @@ taken_of ss = flat_map (λ s. taken_by s.worker) ss
 abbrev pub AccountFor : Rules → Node → List Seat → Type 0
 AccountFor t root ss =
     IsPermutation (entered_of ss ++ leaves_of t (own_of ss ++ put_of ss)) (leaves t root ++ leaves_of t (taken_of ss))
+
+-- ---- the rounds that they made
+-- what their counters show, and all of it together
+abbrev pub counters : List Seat → List ℕ
+counters ss = map (λ s. s.rounds) ss
+
+abbrev pub rounds_of : List Seat → ℕ
+rounds_of ss = sum_by (λ n. n) (counters ss)
+
+-- These are the rounds of the seats, and the counter of each tells its own. With the root, and with the nodes that were
+-- taken from deques, they are as many as the tallies of all.
+pub record AreCounted (ss : List Seat) : Type 0 where
+  pub rounds : List ℕ
+  pub tell : AllZip (λ n shown. Counts n 0 shown) rounds (counters ss)
+  pub sum : sum_by (λ n. n) rounds + 1 + length (taken_of ss) ≡ sum_by (λ s. tally (account s)) ss
 
 -- ---- how they begin
 -- what has to be true where seats are made of a ledger's: t names the nodes of the root by the judge's rules r, it is the

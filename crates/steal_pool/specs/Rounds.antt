@@ -1,5 +1,6 @@
 -- How many nodes a worker has worked off, by its acts and by its counter.
-use Rattle.std.specs.Prelude.{◌⊎◌, ◌≤◌, ℕ, ◌+◌, List, [], ◌∷◌}
+use Rattle.std.specs.Prelude.{◌⊎◌, ◌≤◌, ℕ, ◌+◌, ◌*◌, List, [], ◌∷◌, length}
+use Rattle.spec_pool.specs.Accounts.{Account, own}
 use Rattle.spec_pool.specs.Acts.{Act, Put, Keep, Take, TakeTop, Enter}
 use Rattle.steal_pool.specs.declared.worker.Pushed.{Pushed}
 use Rattle.steal_pool.specs.declared.worker.Pushed.TheVariants.{OnDeque, Kept, Memory}
@@ -26,3 +27,8 @@ rounds_of_push (Memory right) = 0
 pub record Counts (n a b : ℕ) : Type 0 where
   pub most : b ≤ a + n
   pub least : (a + n ≤ b) ⊎ (18446744073709551615 ≤ b)
+
+-- how many nodes a worker has or has put on its deque, with each leaf that it entered counted twice: one more after each
+-- round, as a split makes two of one node, and one more after each take
+abbrev pub tally : Account → ℕ
+tally a = length (own a) + length a.put + 2 * length a.entered

@@ -1,13 +1,13 @@
 // The end of a pool: all stealers are joined, what is left on the deques is done, and the ledger's seats come back.
-ghost use Rattle.std.specs.Prelude.{◌≡◌, Some, None, Err, IfOk, IfErr, IsTrue, IsFalse, IsPermutation};
+ghost use Rattle.std.specs.Prelude.{◌≡◌, ◌+◌, ◌*◌, List, Some, None, Err, IfOk, IfErr, IsTrue, IsFalse, IsPermutation};
 ghost use Rattle.std.specs.List.{AllByRecursion, AllZip};
 ghost use Rattle.spec_trees.specs.declared.tree.Node.{Node};
-ghost use Rattle.spec_trees.specs.Tree.{leaves};
-ghost use Rattle.steal_pool.specs.Seats.{IsLeft};
+ghost use Rattle.spec_trees.specs.Tree.{IsSound, IsValid, leaf_count, leaves};
+ghost use Rattle.steal_pool.specs.Seats.{IsLeft, Seat};
 ghost use Rattle.steal_pool.specs.Closing.{Drains, Ended, Leaves, worse, worst_stop};
 ghost use Rattle.steal_pool.specs.declared.seat.Stop.TheVariants.{Full, Memory as OutOfMemory};
 ghost use Rattle.steal_pool.specs.declared.finishing.FinishError.TheVariants.{Memory as NoMemory};
-ghost use Rattle.steal_pool.specs.Pools.{AccountFor, AreLinked, ComeBack, IfTooMany, IsLeftOver, IsRefused, KeepNone, NoneIsOutOfMemory, entered_in};
+ghost use Rattle.steal_pool.specs.Pools.{AccountFor, AreCounted, AreLinked, ComeBack, IfTooMany, IsLeftOver, IsRefused, KeepNone, NoneIsOutOfMemory, entered_in, rounds_of};
 
 use crate::adding::add_item;
 use crate::joining::join_all_stealers;
@@ -163,6 +163,10 @@ pub fn finish<'p, R: Wait, N: Naming, J: Judge, G: Gate>(
     ensures free { IfOk result (λ v. KeepNone seats.entry.items) }
     ensures leaves { (root : Node) → AccountFor N.rules root seats.entry.items → IfOk result
         (λ v. IsPermutation (entered_in v.items) (leaves N.rules root)) }
+    ensures rounds { (root : Node) → IsSound N.rules → IsValid N.rules root
+        → AccountFor N.rules root seats.entry.items → AreCounted seats.entry.items → IfOk result
+        (λ v. (ended : List Seat) × Ended N.rules seats.entry.items ended
+            × (rounds_of ended + 1 ≡ 2 * leaf_count N.rules root)) }
     ensures too_many { IfErr result (λ e. IfTooMany e (λ es leaf. ComeBack seats.entry.items es)) }
     ensures memory { IfErr result
         (λ e. IfTooMany e (λ es leaf. NoneIsOutOfMemory seats.entry.items)) }

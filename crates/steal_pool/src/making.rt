@@ -5,7 +5,7 @@ ghost use Rattle.spec_trees.specs.declared.tree.Node.{Node};
 ghost use Rattle.spec_trees.specs.Tree.{IsValid};
 ghost use Rattle.span_ledger.specs.Seats.{IsSeatOf, part, table_of, terms};
 ghost use Rattle.steal_pool.specs.Seats.{IsNamed, NewSeat};
-ghost use Rattle.steal_pool.specs.Pools.{AccountFor, AllBegin, AreLinked, CanMake, HaveAllStealers, first_hand};
+ghost use Rattle.steal_pool.specs.Pools.{AccountFor, AllBegin, AreCounted, AreLinked, CanMake, HaveAllStealers, first_hand};
 ghost use Rattle.steal_pool.specs.Workers.{new_stealer};
 ghost use Rattle.steal_pool.specs.Stealers.{Linking, Links, LinksOther, Opens, gained, lent};
 
@@ -181,6 +181,7 @@ pub fn make<'p, N: Naming, J: Judge, G: Gate>(
     ensures stealers { IfOk result (λ v. HaveAllStealers v.items) }
     ensures linked { IfOk result (λ v. AreLinked v.items) }
     ensures account { IfOk result (λ v. AccountFor N.rules root v.items) }
+    ensures counted { IfOk result (λ v. AreCounted v.items) }
 {
     let mut seats = open_seats(alloc, judge, ledger, entries, root, gate)?;
     link_all_seats(ledger, root, seats.as_mut_slice())?;

@@ -166,7 +166,7 @@ pub fn finish<'p, R: Wait, N: Naming, J: Judge, G: Gate>(
     ensures rounds { (root : Node) → IsSound N.rules → IsValid N.rules root
         → AccountFor N.rules root seats.entry.items → AreCounted seats.entry.items → IfOk result
         (λ v. (ended : List Seat) × Ended N.rules seats.entry.items ended
-            × (rounds_of ended + 1 ≡ 2 * leaf_count N.rules root)) }
+        × (rounds_of ended + 1 ≡ 2 * leaf_count N.rules root)) }
     ensures too_many { IfErr result (λ e. IfTooMany e (λ es leaf. ComeBack seats.entry.items es)) }
     ensures memory { IfErr result
         (λ e. IfTooMany e (λ es leaf. NoneIsOutOfMemory seats.entry.items)) }

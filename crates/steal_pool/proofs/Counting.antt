@@ -1,5 +1,5 @@
 -- How many rounds seats make, by the acts of their work.
-use Rattle.std.proofs.Common.{◌≡◌, inl, ℕ, suc, ◌+◌, ◌<◌, List, [], ◌∷◌, ◌++◌, length, map, Option, Some, None, option_to_list, slice_get, IsPermutation, refl, sym, ap, ◌∙◌, arith}
+use Rattle.std.proofs.Common.{◌≡◌, inl, ℕ, suc, ◌+◌, ◌<◌, ◌≤◌, List, [], ◌∷◌, ◌++◌, length, map, Option, Some, None, option_to_list, slice_get, IsPermutation, refl, sym, ap, ◌∙◌, arith}
 use Rattle.std.specs.List.{AllZip}
 use Rattle.spec_trees.specs.declared.tree.Node.{Node}
 use Rattle.spec_trees.specs.Tree.{Rules, leaf_of}
@@ -11,7 +11,7 @@ use Rattle.span_ledger.specs.declared.desk.SpanLedger.{SpanLedger}
 use Rattle.steal_pool.specs.Rounds.{Counts, round, rounds_in, tally}
 use Rattle.steal_pool.specs.Workers.{taken_by}
 use Rattle.steal_pool.specs.Seats.{IsLike, Seat, Works, account, entered_by}
-use Rattle.steal_pool.specs.Pools.{AllBegin, AreCounted, Begins, counters, first_hand, taken_of}
+use Rattle.steal_pool.specs.Pools.{AllBegin, AreCounted, Begins, HasRoom, counters, first_hand, taken_of}
 use Rattle.steal_pool.specs.Runs.{IsLater}
 use Rattle.steal_pool.proofs.Accounts.{same_weights}
 use Rattle.steal_pool.proofs.Entering.{counts_more}
@@ -205,3 +205,6 @@ begin_counted ledger root (s ∷ ss) some all = record {
     weigh_none (λ (x : Seat). tally (account x)) ss (λ k x at. begin_tally ledger (suc k) (first_hand root (suc k)) x (all (suc k) x at) ∙ ap (λ (h : Option Node). length (option_to_list h)) (hand_of_other (suc k) root (omega arith))),
   );
 }
+
+pub begin_room : (ledger : SpanLedger) (root : Node) (ss : List Seat) → length ss ≤ 64 → AllBegin ledger root ss → HasRoom ss
+begin_room ledger root ss few all = λ s at. let room : 64 ≤ s.room = (all 0 s at).room in omega (arith, few, room)

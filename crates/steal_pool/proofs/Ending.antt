@@ -9,7 +9,7 @@ use Rattle.spec_pool.specs.declared.ledger.LedgerTerms.{LedgerTerms}
 use Rattle.spec_pool.specs.Accounts.{leaves_of}
 use Rattle.spec_pool.specs.History.{Fresh}
 use Rattle.spec_pool.proofs.Balancing.{by_leaves}
-use Rattle.spec_pool.proofs.Finding.{leaves_permuted}
+use Rattle.spec_pool.proofs.Finding.{leaves_permuted, nodes_permuted}
 use Rattle.spec_pool.proofs.Hands.{hand_weigh, weigh_hand}
 use Rattle.spec_pool.proofs.Weights.{weigh, weigh-append, weigh-flat, weigh-map, weigh-same, sum_is_weigh}
 use Rattle.span_ledger.specs.declared.desk.LedgerSeat.{LedgerSeat}
@@ -18,17 +18,17 @@ use Rattle.steal_pool.specs.declared.seat.Stop.TheVariants.{Full, Memory}
 use Rattle.steal_pool.specs.Rule.{DequeId, End}
 use Rattle.steal_pool.specs.Rounds.{Counts, tally}
 use Rattle.steal_pool.specs.Seats.{IsFullOf, IsLeft, Seat, SeatLinks, account, entered_by, place_of, ways}
-use Rattle.steal_pool.specs.Pools.{AccountFor, AreCounted, AreLinked, ComeBack, IsLeftOver, IsRefused, KeepNone, NoneIsOutOfMemory, entered_in, own_of, stealers_on, right_of, seat_right, taken_of, ways_of_all}
+use Rattle.steal_pool.specs.Pools.{AccountFor, AreCounted, AreLinked, ComeBack, HasRoom, IsLeftOver, IsRefused, KeepNone, LeavesOver, NoneIsOutOfMemory, SomeIsOutOfMemory, entered_in, entered_of, put_of, own_of, stealers_on, right_of, seat_right, taken_of, ways_of_all}
 use Rattle.steal_pool.specs.Stealers.{HasNoStealer, Joined, lasting}
 use Rattle.steal_pool.specs.Closing.{Drains, Ended, HasUsedUp, Leaves, SomeIsFull, worst_stop}
 use Rattle.steal_pool.proofs.Rule.{left_permuted}
 use Rattle.steal_pool.proofs.Accounts.{entered_weigh, entered_weight, own_weight, same_weights, taken_weight}
 use Rattle.steal_pool.specs.Runs.{IsLater}
-use Rattle.steal_pool.proofs.Pooling.{later_same, same_linked}
-use Rattle.steal_pool.proofs.Together.{account_later, account_weighs, entered_sum, own_of_weigh, own_sum, put_sum, taken_of_weigh, taken_sum, weighs_account}
+use Rattle.steal_pool.proofs.Pooling.{later_same, same_linked, same_room}
+use Rattle.steal_pool.proofs.Together.{account_later, account_weighs, entered_of_weigh, entered_sum, own_of_weigh, own_sum, put_sum, taken_of_weigh, taken_sum, weighs_account}
 use Rattle.steal_pool.proofs.Counting.{later_counted, same_count}
-use Rattle.steal_pool.proofs.Stopping.{full_stopped}
-use Rattle.steal_pool.proofs.Listing.{all_get, zip_all, zip_at, zip_map, map_all, map_at, map_from, weigh_none}
+use Rattle.steal_pool.proofs.Stopping.{full_stopped, memory_stopped}
+use Rattle.steal_pool.proofs.Listing.{all_get, zip_all, zip_at, zip_map, map_all, map_at, map_length, map_from, weigh_none}
 
 map_twice : {A B C : Type 0} (f : A → B) (g : B → C) (xs : List A) → map (λ x. g (f x)) xs ≡ map g (map f xs)
 map_twice f g [] = refl
@@ -92,6 +92,18 @@ module _ (t : Rules) (ss us : List Seat) (j : Joined ss us) where
     );
   }
 
+joined_room : (ss us : List Seat) → map lasting us ≡ map lasting ss → HasRoom ss → HasRoom us
+joined_room [] [] e r = r
+joined_room [] (u ∷ us) e r = absurd cc
+joined_room (s ∷ ss) [] e r = absurd cc
+joined_room (s ∷ ss) (u ∷ us) e r = λ x at.
+    let first : lasting u ≡ lasting s = cc in
+    let is : u ≡ x = cc in
+    let same : u.room ≡ x.room = ap (λ (y : Seat). y.room) is in
+    let rooms : u.room ≡ s.room = ap (λ (y : Seat). y.room) first in
+    let count : length (u ∷ us) ≡ length (s ∷ ss) = map_length lasting (s ∷ ss) (u ∷ us) e in
+    omega (arith, r s refl, rooms, same, count)
+
 -- ---- each worked
 later_none : (t : Rules) (s q : Seat) → IsLater t s q → HasNoStealer s → HasNoStealer q
 later_none t s q c none =
@@ -116,6 +128,7 @@ ended t ss us qs j linked none w = record {
   memory = λ all. joined_memory t ss us j (memory_before w.refusals all);
   account = λ root a. account_later t root us qs w.changes (joined_account t ss us j root a);
   counted = λ a. later_counted t us qs w.changes (joined_counted t ss us j a);
+  room = λ r. same_room us qs (later_same t us qs w.changes) (joined_room ss us j.lasting r);
 }
   where
     free_before : KeepNone us ⊎ (qs ≡ us) → KeepNone qs → KeepNone us
@@ -263,3 +276,30 @@ some_refused t ss qs es leaf d b (k, q, at, f) =
       subst (λ (p : SeatHistory). s.0.terms.limit ≤ length p.seen) (sym e.2.part) (omega (arith, f.limit, ap (λ (x : LedgerTerms). x.limit) s.2)),
       subst (λ (p : SeatHistory). Fresh leaf p.seen) (sym e.2.part) f.fresh,
     )
+
+-- ---- a seat was out of memory
+pub leaves_over : (t : Rules) (ss qs : List Seat) (es : List LedgerSeat) → Ended t ss qs → AllZip Leaves qs es → (root : Node) → AccountFor t root ss → LeavesOver t root qs
+leaves_over t ss qs es d b root a =
+    let left = sum_left qs (deque_left t ss qs es d b) in record {
+      rest = left.0;
+      deques = nodes_permuted (put_of qs) (taken_of qs ++ left.0) (λ h. omega (
+        arith,
+        weigh-flat (λ (s : Seat). s.worker.own.view.put) h qs,
+        taken_of_weigh h qs,
+        left.1 h,
+        weigh-append h (taken_of qs) left.0,
+      ));
+      account = leaves_permuted (entered_of qs ++ leaves_of t (own_of qs ++ left.0)) (leaves t root) (λ h. omega (
+        arith,
+        account_weighs t root qs (d.account root a) h,
+        entered_of_weigh h qs,
+        weigh-append h (entered_of qs) (leaves_of t (own_of qs ++ left.0)),
+        weigh-flat (leaves t) h (own_of qs ++ left.0),
+        weigh-append (by_leaves t h) (own_of qs) left.0,
+        own_of_weigh t h qs,
+        left.1 (by_leaves t h),
+      ));
+    }
+
+pub some_out_of_memory : (qs : List Seat) → worst_stop qs ≡ Some Memory → SomeIsOutOfMemory qs
+some_out_of_memory qs e = memory_stopped qs e

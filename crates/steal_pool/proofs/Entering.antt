@@ -143,7 +143,7 @@ kept_when_full n r first kept = ⊎_elim (λ less. absurd (not_both (sym (first 
 
 -- ---- pieces of a seat's work
 pub same_more : (a b c : Seat) → SameSeat a b → SameSeat b c → SameSeat a c
-same_more a b c x y = record { ways = y.ways ∙ x.ways; table = y.table ∙ x.table; terms = y.terms ∙ x.terms; number = y.number ∙ x.number }
+same_more a b c x y = record { ways = y.ways ∙ x.ways; table = y.table ∙ x.table; terms = y.terms ∙ x.terms; number = y.number ∙ x.number; room = y.room ∙ x.room }
 
 pub same_refused : (a b c : Seat) (e : _) → SameSeat a b → c ≡ with_refusal b e → SameSeat a c
 same_refused a b c e x is = record {
@@ -151,6 +151,7 @@ same_refused a b c e x is = record {
   table = ap (λ (s : Seat). s.table) is ∙ x.table;
   terms = ap (λ (s : Seat). s.terms) is ∙ x.terms;
   number = ap (λ (s : Seat). s.part.number) is ∙ x.number;
+  room = ap (λ (s : Seat). s.room) is ∙ x.room;
 }
 
 -- a counter that stays, and one that goes on

@@ -8,11 +8,11 @@ use Rattle.span_ledger.specs.declared.desk.LedgerSeat.{LedgerSeat}
 use Rattle.steal_pool.specs.declared.finishing.FinishError.{FinishError}
 use Rattle.steal_pool.specs.declared.finishing.FinishError.TheVariants.{TooMany, Memory}
 use Rattle.steal_pool.specs.declared.seat.Stop.{Stop}
-use Rattle.steal_pool.specs.declared.seat.Stop.TheVariants.{Full}
+use Rattle.steal_pool.specs.declared.seat.Stop.TheVariants.{Full, Memory as OutOfMemory}
 use Rattle.steal_pool.specs.Seats.{Seat}
-use Rattle.steal_pool.specs.Pools.{AccountFor, AreCounted, ComeBack, IfTooMany, IsLeftOver, IsRefused, KeepNone, NoneIsOutOfMemory, entered_in, rounds_of}
+use Rattle.steal_pool.specs.Pools.{AccountFor, AreCounted, ComeBack, IfTooMany, IsLeftOver, IsRefused, KeepNone, LeavesOver, NoneIsOutOfMemory, SomeIsOutOfMemory, entered_in, rounds_of}
 use Rattle.steal_pool.specs.Closing.{Ended, Leaves, SomeIsFull, worst_stop}
-use Rattle.steal_pool.proofs.Ending.{all_entered, come_back, some_left_over, some_refused, worst_is_full}
+use Rattle.steal_pool.proofs.Ending.{all_entered, come_back, leaves_over, some_left_over, some_out_of_memory, some_refused, worst_is_full}
 use Rattle.steal_pool.proofs.RoundsEnd.{rounds_at_end}
 use Rattle.steal_pool.proofs.Stopping.{none_stopped}
 
@@ -40,6 +40,9 @@ module _ (t : Rules) (ss qs : List Seat) (es : List LedgerSeat) (worst : Option 
 
   pub rounds : worst ≡ None → (root : Node) → IsSound t → IsValid t root → AccountFor t root ss → AreCounted ss → (ended : List Seat) × Ended t ss ended × (rounds_of ended + 1 ≡ 2 * leaf_count t root)
   rounds e root sound valid account counted = (qs, d, rounds_at_end t ss qs es d b (none e) root sound valid account counted)
+
+  pub out_of_memory : worst ≡ Some OutOfMemory → (ended : List Seat) × Ended t ss ended × SomeIsOutOfMemory ended × ((root : Node) → AccountFor t root ss → LeavesOver t root ended)
+  out_of_memory e = (qs, d, some_out_of_memory qs (sym w ∙ e), (λ root a. leaves_over t ss qs es d b root a))
 
   full : (leaf : Leaf) → worst ≡ Some (Full leaf) → NoneIsOutOfMemory qs × SomeIsFull t leaf qs
   full leaf e = worst_is_full t qs leaf d.left (sym w ∙ e)

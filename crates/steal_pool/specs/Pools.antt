@@ -17,7 +17,7 @@ use Rattle.steal_pool.specs.declared.seat.Stop.TheVariants.{Memory as OutOfMemor
 use Rattle.steal_pool.specs.Rule.{DequeId}
 use Rattle.steal_pool.specs.Rounds.{Counts, tally}
 use Rattle.steal_pool.specs.Workers.{taken_by}
-use Rattle.steal_pool.specs.Seats.{IsNamed, Seat, SeatLinks, account, entered_by, ways}
+use Rattle.steal_pool.specs.Seats.{IsNamed, Seat, SeatLinks, account, entered_by, first_room, ways}
 
 -- ---- the stealers
 abbrev pub ways_of_all : List Seat → List SeatLinks
@@ -115,12 +115,24 @@ pub record Begins (ledger : SpanLedger) (k : ℕ) (node : Option Node) (s : Seat
   pub terms : s.terms ≡ terms ledger
   pub refusal : s.refusal ≡ None
   pub rounds : s.rounds ≡ 0
+  pub room : first_room k ≤ s.room
 
 -- each seat has its place as its number; the root is in the hand of the first, and all else is empty
 abbrev pub AllBegin : SpanLedger → Node → List Seat → Type 0
 AllBegin ledger root ss = (k : ℕ) (s : Seat) → slice_get ss k ≡ Some s → Begins ledger k (first_hand root k) s
 
 -- ---- what comes back
+-- the first of them has room for the ledger seats of all
+abbrev pub HasRoom : List Seat → Type 0
+HasRoom ss = (s : Seat) → slice_get ss 0 ≡ Some s → length ss ≤ s.room
+
+-- what is left to do by them: `rest` is still on the deques, and the leaves of what they hold and of that are those of the
+-- root's that are not entered, as multisets
+pub record LeavesOver (t : Rules) (root : Node) (ss : List Seat) : Type 0 where
+  pub rest : List Node
+  pub deques : IsPermutation (put_of ss) (taken_of ss ++ rest)
+  pub account : IsPermutation (entered_of ss ++ leaves_of t (own_of ss ++ rest)) (leaves t root)
+
 -- of which ledger's table, and under which number
 abbrev pub right_of : Seat → TableId × ℕ
 right_of s = (s.table, s.part.number)
@@ -155,3 +167,6 @@ KeepNone ss = AllByRecursion (λ s. s.refusal ≡ None) ss
 
 abbrev pub NoneIsOutOfMemory : List Seat → Type 0
 NoneIsOutOfMemory ss = AllByRecursion (λ s. s.refusal ≢ Some OutOfMemory) ss
+
+abbrev pub SomeIsOutOfMemory : List Seat → Type 0
+SomeIsOutOfMemory ss = (k : ℕ) × (s : Seat) × (slice_get ss k ≡ Some s) × (s.refusal ≡ Some OutOfMemory)

@@ -24,7 +24,8 @@ abbrev pub rules_within : Rules → Node → Rules
 rules_within t root = record { first = root.a; last = root.b; deepest = t.deepest; verdict = t.verdict; parts = t.parts }
 
 -- the worker, its part of the ledger's history, the table and the terms of the ledger, why it stopped, how many steal
--- attempts it has made, and its counter of the nodes that it has split or entered
+-- attempts it has made, its counter of the nodes that it has split or entered, and how many seats of the ledger it has room
+-- for
 pub record Seat : Type 0 where
   pub worker : Holder
   pub part : SeatHistory
@@ -33,16 +34,24 @@ pub record Seat : Type 0 where
   pub refusal : Option Stop
   pub tried : ℕ
   pub rounds : ℕ
+  pub room : ℕ
 
-abbrev pub seat_of : Holder → SeatHistory → TableId → LedgerTerms → Option Stop → ℕ → ℕ → Seat
-seat_of worker part table terms refusal tried rounds =
-    record { worker = worker; part = part; table = table; terms = terms; refusal = refusal; tried = tried; rounds = rounds }
+abbrev pub seat_of : Holder → SeatHistory → TableId → LedgerTerms → Option Stop → ℕ → ℕ → ℕ → Seat
+seat_of worker part table terms refusal tried rounds room =
+    record { worker = worker; part = part; table = table; terms = terms; refusal = refusal; tried = tried; rounds = rounds; room = room }
 
 abbrev pub with_worker : Seat → Holder → Seat
-with_worker s w = seat_of w s.part s.table s.terms s.refusal s.tried s.rounds
+with_worker s w = seat_of w s.part s.table s.terms s.refusal s.tried s.rounds s.room
 
 abbrev pub with_refusal : Seat → Option Stop → Seat
-with_refusal s refusal = seat_of s.worker s.part s.table s.terms refusal s.tried s.rounds
+with_refusal s refusal = seat_of s.worker s.part s.table s.terms refusal s.tried s.rounds s.room
+
+abbrev pub with_room : Seat → ℕ → Seat
+with_room s room = seat_of s.worker s.part s.table s.terms s.refusal s.tried s.rounds room
+
+-- the seat with number 0 has room for the seats of any ledger
+abbrev pub first_room : ℕ → ℕ
+first_room number = if number == 0 then 64 else 0
 
 abbrev pub IsHolding : Seat → Type 0
 IsHolding s = (n : Node) × (s.worker.hand ≡ Some n)
@@ -116,12 +125,13 @@ ways_of own made others = record { own = own; made = made; others = others }
 abbrev pub ways : Holder → SeatLinks
 ways w = ways_of (place_of w.own) w.own.view.made (map place_of w.stealers)
 
--- the same ways, ledger and number
+-- the same ways, ledger, number and room
 pub record SameSeat (s s' : Seat) : Type 0 where
   pub ways : ways s'.worker ≡ ways s.worker
   pub table : s'.table ≡ s.table
   pub terms : s'.terms ≡ s.terms
   pub number : s'.part.number ≡ s.part.number
+  pub room : s'.room ≡ s.room
 
 -- ---- refusals
 -- the leaf is that of the node in the hand, and is not among the entries that the seat has seen, which are as many as the
@@ -163,7 +173,7 @@ IsNamed t r root = (t ≡ rules_within r root) × IsValid r root
 -- a seat that has done nothing yet, with this in its hand
 abbrev pub NewSeat : SeatHistory → TableId → LedgerTerms → Option Node → Seat → Type 0
 NewSeat part table terms hand s =
-    IsNew part.number hand s.worker × (s.part ≡ part) × (s.table ≡ table) × (s.terms ≡ terms) × (s.refusal ≡ None) × (s.rounds ≡ 0)
+    IsNew part.number hand s.worker × (s.part ≡ part) × (s.table ≡ table) × (s.terms ≡ terms) × (s.refusal ≡ None) × (s.rounds ≡ 0) × (first_room part.number ≤ s.room)
 
 -- a seat as `work` leaves it: it holds nothing, or keeps why it stopped, with a leaf only where it is full
 pub record IsLeft (t : Rules) (s : Seat) : Type 0 where

@@ -6,7 +6,7 @@ ghost use Rattle.spec_trees.specs.Order.{CoverRoot, ordered_leaves};
 ghost use Rattle.spec_pool.specs.History.{Sound};
 ghost use Rattle.span_ledger.specs.Seats.{AllFit, terms};
 ghost use Rattle.steal_pool.specs.Seats.{IsLeft, IsNamed, Seat};
-ghost use Rattle.steal_pool.specs.Pools.{AccountFor, AreCounted, AreLinked, CanMake, IfTooMany};
+ghost use Rattle.steal_pool.specs.Pools.{AccountFor, AreCounted, AreLinked, CanMake, HasRoom, IfTooMany};
 ghost use Rattle.steal_pool.specs.Runs.{AreAll, AreFree, AreSeatsOf, EnteredOnce, HasWorked, HaveEntered, IsLater, IsOverfull};
 ghost use Rattle.steal_pool.specs.declared.seat.PoolError.TheVariants.{TooMany};
 
@@ -129,6 +129,7 @@ fn make_and_work<'p, R: Threads + Wait + Sync, N: Naming + Send + Sync, J: Judge
     ensures left { IfOk result (λ v. AllByRecursion (IsLeft N.rules) v.items) }
     ensures account { IfOk result (λ v. AccountFor N.rules root v.items) }
     ensures counted { IfOk result (λ v. AreCounted v.items) }
+    ensures room { IfOk result (λ v. HasRoom v.items) }
     ensures seats { IfOk result (λ v. AreSeatsOf ledger.now v.items) }
 {
     rules_are_sound(judge);

@@ -11,7 +11,7 @@ returns-in-Some-clause-works g c = rw (← c.self.view_is) (counted_works g.N.Na
     (stopped_same _ _ _ _ _ c.enter-entry.ensures.entering c.in-Some.stop c.in-Some.ensures)) (counts_none _))
 
 pub returns-in-Some-clause-same : goal.returns-in-Some-clause-same
-returns-in-Some-clause-same g c = rw (← c.self.view_is) (record { ways = refl; table = refl; terms = refl; number = kept_number _ _ _ _ _ c.enter-entry.ensures.entering })
+returns-in-Some-clause-same g c = rw (← c.self.view_is) (record { ways = refl; table = refl; terms = refl; number = kept_number _ _ _ _ _ c.enter-entry.ensures.entering; room = refl })
 
 pub returns-in-Some-clause-full : goal.returns-in-Some-clause-full
 returns-in-Some-clause-full g c =

@@ -13,7 +13,7 @@ returns-clause-works g c = rw (← c.self.view_is) (counted_works g.N.Naming.rul
     (ap (λ s. s.worker.hand) c.self.view_is ∙ c.requires.empty) c.take.ensures.taken) (counts_none _))
 
 pub returns-clause-same : goal.returns-clause-same
-returns-clause-same g c = rw (← c.self.view_is) (record { ways = taken_ways c.take.result c.self.inside.worker c.take.new.self c.take.ensures.taken; table = refl; terms = refl; number = refl })
+returns-clause-same g c = rw (← c.self.view_is) (record { ways = taken_ways c.take.result c.self.inside.worker c.take.new.self c.take.ensures.taken; table = refl; terms = refl; number = refl; room = refl })
 
 pub returns-clause-order : goal.returns-clause-order
 returns-clause-order g c = rw (← c.self.view_is) c.take.ensures.taken

@@ -38,8 +38,8 @@ module _ (t : Rules) (ss qs : List Seat) (es : List LedgerSeat) (worst : Option 
   pub all_back : (vs : List LedgerSeat) → vs ≡ es → worst ≡ None → (root : Node) → AccountFor t root ss → IsPermutation (entered_in vs) (leaves t root)
   all_back vs is e root a = subst (λ (xs : List LedgerSeat). IsPermutation (entered_in xs) (leaves t root)) (sym is) (all_entered t ss qs es d b (none e) root a)
 
-  pub rounds : worst ≡ None → (root : Node) → IsSound t → IsValid t root → AccountFor t root ss → AreCounted ss → (ended : List Seat) × Ended t ss ended × (rounds_of ended + 1 ≡ 2 * leaf_count t root)
-  rounds e root sound valid account counted = (qs, d, rounds_at_end t ss qs es d b (none e) root sound valid account counted)
+  pub rounds : worst ≡ None → (root : Node) → IsSound t → IsValid t root → AccountFor t root ss → AreCounted ss → (ended : List Seat) × Ended t ss ended × KeepNone ended × (rounds_of ended + 1 ≡ 2 * leaf_count t root)
+  rounds e root sound valid account counted = (qs, d, none e, rounds_at_end t ss qs es d b (none e) root sound valid account counted)
 
   pub out_of_memory : worst ≡ Some OutOfMemory → (ended : List Seat) × Ended t ss ended × SomeIsOutOfMemory ended × ((root : Node) → AccountFor t root ss → LeavesOver t root ended)
   out_of_memory e = (qs, d, some_out_of_memory qs (sym w ∙ e), (λ root a. leaves_over t ss qs es d b root a))
@@ -49,6 +49,9 @@ module _ (t : Rules) (ss qs : List Seat) (es : List LedgerSeat) (worst : Option 
 
   pub memory : (leaf : Leaf) → worst ≡ Some (Full leaf) → NoneIsOutOfMemory ss
   memory leaf e = d.memory (full leaf e).0
+
+  pub worst_is : (leaf : Leaf) → worst ≡ Some (Full leaf) → (ended : List Seat) × Ended t ss ended × NoneIsOutOfMemory ended × SomeIsFull t leaf ended
+  worst_is leaf e = (qs, d, (full leaf e).0, (full leaf e).1)
 
   pub refused : (vs : List LedgerSeat) (leaf : Leaf) → vs ≡ es → worst ≡ Some (Full leaf) → IsRefused ss vs leaf
   refused vs leaf is e = subst (λ (xs : List LedgerSeat). IsRefused ss xs leaf) (sym is) (some_refused t ss qs es leaf d b (full leaf e).1)

@@ -6,3 +6,4 @@ pub mod Pools
 pub mod Runs
 pub mod Stealers
 pub mod Closing
+pub mod Histories

@@ -1,10 +1,10 @@
 // The end of a pool: all stealers are joined, what is left on the deques is done, and the ledger's seats come back.
-ghost use Rattle.std.specs.Prelude.{◌≡◌, ◌≤◌, ◌+◌, ◌*◌, ℕ, List, [], Some, None, Err, IfOk, IfErr, IsOk, IsTrue, IsFalse, IsPermutation, length, slice_get, vec_capacity};
+ghost use Rattle.std.specs.Prelude.{◌≡◌, ◌≤◌, ◌+◌, ◌*◌, List, [], Some, None, Err, IfOk, IfErr, IsOk, IsTrue, IsFalse, IsPermutation, length, vec_capacity};
 ghost use Rattle.std.specs.List.{AllByRecursion, AllZip};
 ghost use Rattle.spec_trees.specs.declared.tree.Node.{Node};
 ghost use Rattle.spec_trees.specs.Tree.{IsSound, IsValid, leaf_count, leaves};
 ghost use Rattle.steal_pool.specs.Seats.{IsLeft, Seat, with_room};
-ghost use Rattle.steal_pool.specs.Closing.{Drains, Ended, IsRoomless, Leaves, worse, worst_stop};
+ghost use Rattle.steal_pool.specs.Closing.{Drains, Ended, IsRoomless, Leaves, SomeIsFull, worse, worst_stop};
 ghost use Rattle.steal_pool.specs.declared.seat.Stop.TheVariants.{Full, Memory as OutOfMemory};
 ghost use Rattle.steal_pool.specs.declared.finishing.FinishError.TheVariants.{Memory as NoMemory};
 ghost use Rattle.steal_pool.specs.Pools.{AccountFor, AreCounted, AreLinked, ComeBack, HasRoom, IfTooMany, IsLeftOver, IsRefused, KeepNone, LeavesOver, NoneIsOutOfMemory, SomeIsOutOfMemory, entered_in, rounds_of};
@@ -205,10 +205,13 @@ pub fn finish<'p, R: Wait, N: Naming, J: Judge, G: Gate>(
     ensures rounds { (root : Node) → IsSound N.rules → IsValid N.rules root
         → AccountFor N.rules root seats.entry.items → AreCounted seats.entry.items → IfOk result
         (λ v. (ended : List Seat) × Ended N.rules seats.entry.items ended
-        × (rounds_of ended + 1 ≡ 2 * leaf_count N.rules root)) }
+        × KeepNone ended × (rounds_of ended + 1 ≡ 2 * leaf_count N.rules root)) }
     ensures too_many { IfErr result (λ e. IfTooMany e (λ es leaf. ComeBack seats.entry.items es)) }
     ensures memory { IfErr result
         (λ e. IfTooMany e (λ es leaf. NoneIsOutOfMemory seats.entry.items)) }
+    ensures worst { IfErr result (λ e. IfTooMany e (λ es leaf. (ended : List Seat)
+        × Ended N.rules seats.entry.items ended
+        × NoneIsOutOfMemory ended × SomeIsFull N.rules leaf ended)) }
     ensures out_of_memory { HasRoom seats.entry.items → result ≡ Err NoMemory → (ended : List Seat)
         × Ended N.rules seats.entry.items ended × SomeIsOutOfMemory ended
         × ((root : Node) → AccountFor N.rules root seats.entry.items → LeavesOver N.rules root ended) }

@@ -1,4 +1,4 @@
-use Rattle.std.proofs.Common.{List, length, sym, subst, ap, ◌∙◌, arith, IfOk, Vec}
+use Rattle.std.proofs.Common.{List, length, sym, subst, ap, ◌∙◌, arith}
 use Rattle.std.specs.List.{AllZip}
 use Rattle.std.proofs.lemmas.List.{with_items_is}
 use Rattle.steal_pool.specs.Pools.{HasRoom}

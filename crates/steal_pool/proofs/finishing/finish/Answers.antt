@@ -5,7 +5,7 @@ use Rattle.steal_pool.specs.Seats.{Seat}
 use Rattle.steal_pool.specs.Closing.{Ended, Leaves, worst_stop}
 use Rattle.steal_pool.specs.Pools.{right_of}
 use Rattle.steal_pool.proofs.Listing.{map_length}
-use Rattle.steal_pool.proofs.Outcomes.{all_back, back, free, if_ok, if_too_many, left_over, memory, out_of_memory, refused, rounds}
+use Rattle.steal_pool.proofs.Outcomes.{all_back, back, free, if_ok, if_too_many, left_over, memory, out_of_memory, refused, rounds, worst_is}
 use Rattle.steal_pool.proofs.finishing.finish.Goals as goal
 
 pub returns : goal.returns
@@ -27,6 +27,7 @@ returns g c =
       rounds = λ root sound valid a counted. if_ok c.seats_or_stop.result _ _ c.seats_or_stop.ensures.back (λ v is. rounds t ss qs es worst d b w is.1 root sound valid a counted);
       too_many = if_too_many c.seats_or_stop.result _ _ c.seats_or_stop.ensures.too_many (λ vs leaf is. back t ss qs es worst d b w vs is.0);
       memory = if_too_many c.seats_or_stop.result _ _ c.seats_or_stop.ensures.too_many (λ vs leaf is. memory t ss qs es worst d b w leaf is.1);
+      worst = if_too_many c.seats_or_stop.result _ _ c.seats_or_stop.ensures.too_many (λ vs leaf is. worst_is t ss qs es worst d b w leaf is.1);
       out_of_memory = λ room e. out_of_memory t ss qs es worst d b w (c.seats_or_stop.ensures.memory e);
       refused = if_too_many c.seats_or_stop.result _ _ c.seats_or_stop.ensures.too_many (λ vs leaf is. refused t ss qs es worst d b w vs leaf is.0 is.1);
       left_over = λ root a. if_too_many c.seats_or_stop.result _ _ c.seats_or_stop.ensures.too_many (λ vs leaf is. left_over t ss qs es worst d b w vs leaf is.0 is.1 root a);

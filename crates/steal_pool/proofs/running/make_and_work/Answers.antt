@@ -38,6 +38,7 @@ returns g c =
       linked = same_linked now qs same (subst AreLinked (sym is) c.in_ok-seats.ensures.linked);
       left = c.begin_and_work.ensures.left;
       account = account_later t c.args.root now qs later (subst (λ (ss : List Seat). AccountFor t c.args.root ss) (sym is) c.in_ok-seats.ensures.account);
+      come = (now, ap length is ∙ c.in_ok-seats.ensures.count, begin, later);
       counted = later_counted t now qs later (subst AreCounted (sym is) c.in_ok-seats.ensures.counted);
       room = same_room now qs same (subst HasRoom (sym is) c.in_ok-seats.ensures.room);
       seats = same_seats c.args.ledger.now c.args.root now qs begin same;

@@ -47,18 +47,15 @@ fn words_of_arguments(alloc: Global, arguments: io::Result<Args>) -> Result<Vec<
 }
 
 // Runs the one call of the program over the words of the command line, the system's files and its streams, and exits
-// with its status.
+// with its status. It is one expression, since no contract can speak of it.
 fn main(rt: HostRuntime) -> ExitCode {
-    let mut shelf = FileShelf::new(SystemFiles::new(&rt));
-    let mut out = StdSink::out(&rt);
-    let mut err = StdSink::err(&rt);
     ExitCode::from(run(
         &rt,
         rt.alloc(),
         words_of_arguments(rt.alloc(), env::args(&rt)),
-        &mut shelf,
-        &mut out,
-        &mut err,
+        &mut FileShelf::new(SystemFiles::new(&rt)),
+        &mut StdSink::out(&rt),
+        &mut StdSink::err(&rt),
         &OpenGate,
     ))
 }

@@ -1,6 +1,7 @@
 //! The program as a whole: words and the bytes of files come in, and a report, a summary or the line of a fault goes out,
 //! with a status. Each command has a module of its own, and a record of `specs/` that says what it reports. What is public
-//! is the call itself with its statuses, and the types of which its contract speaks: why a run is refused, and spans.
+//! is the call `finder` with its statuses, `run`, by which `main` makes it, and the types of which the contract speaks: why a
+//! run is refused, and spans.
 #![tactic(auto)]
 
 mod answer;

@@ -16,7 +16,7 @@ use Rattle.spec_pool.proofs.Finding.{nodes_permuted, leaves_permuted}
 use Rattle.spec_pool.proofs.Hands.{weigh_hand, hand_weigh}
 use Rattle.spec_pool.proofs.Weights.{weigh, weigh-append, weigh-push, weigh-flat, weigh-map, weigh-set, sum_is_weigh}
 use Rattle.steal_pool.specs.Rule.{DequeId, End, takes_one}
-use Rattle.steal_pool.specs.Workers.{Holder, taken_by, after_empty_pop, on_deque, on_stack, with_hand, IsSplit, IsRight, TookOne, Takes, TakesInOrder, TakesOwn, TakesOther, FindsNone}
+use Rattle.steal_pool.specs.Workers.{Holder, taken_by, after_empty_pop, on_deque, on_stack, with_hand, IsSplit, IsRight, TookOne, Takes, TakesInOrder, TakesOwn, TakesOther}
 use Rattle.steal_pool.specs.Seats.{IsLike, account_of, entered_by, Gets, place_of, rules_within, ways, ways_of}
 
 -- ---- weights of an account
@@ -256,10 +256,6 @@ pub takes_works : (t : Rules) (n : Node) (w v : Holder) (p : SeatHistory) → w.
 takes_works t n w v p none (inl o) = in_order_works t n w v p none o
 takes_works t n w v p none (inr (inl (filled, oldest, e))) = own_works t n w v p none e
 takes_works t n w v p none (inr (inr (filled, used, o))) = in_order_works t n (after_empty_pop w) v p none o
-
-pub none_works : (t : Rules) (w v : Holder) (p : SeatHistory) → FindsNone w v → Weighs t w p v p
-none_works t w v p f = idle_works t w p v p
-    (ap (λ (u : Holder). u.own) f.2) (ap (λ (u : Holder). u.stealers) f.2) (ap (λ (u : Holder). u.hand) f.2) (ap (λ (u : Holder). u.kept) f.2) refl refl
 
 split_weigh : (t : Rules) → IsSound t → (n left right : Node) → IsValid t n → t.verdict n ≡ Split → t.parts n ≡ (left, right) → (h : Leaf → ℕ) → by_leaves t h n ≡ by_leaves t h left + by_leaves t h right
 split_weigh t sound n left right v e parts h = omega (

@@ -1,7 +1,7 @@
 -- How many rounds a pool has made at its end: one for each node of the root's tree.
 use Rattle.std.proofs.Common.{◌≡◌, ◌⊎◌, inl, inr, ℕ, suc, ◌+◌, ◌*◌, ◌<◌, ◌≤◌, ℤ, pos, ◌-ℤ◌, ◌≤ℤ◌, List, [], ◌∷◌, length, Some, None, slice_get, refl, sym, ap, ◌∙◌, arith}
 use Rattle.std.proofs.lemmas.Int.{ints}
-use Rattle.std.specs.List.{AllByRecursion, AllZip}
+use Rattle.std.specs.List.{AllZip}
 use Rattle.spec_trees.specs.declared.tree.Node.{Node}
 use Rattle.spec_trees.specs.declared.tree.Leaf.{Leaf}
 use Rattle.spec_trees.specs.Tree.{Covers, Rules, IsSound, IsValid, leaf_count, leaves}
@@ -13,7 +13,7 @@ use Rattle.steal_pool.specs.Seats.{IsLeft, Seat, account, entered_by}
 use Rattle.steal_pool.specs.Pools.{AccountFor, AreCounted, KeepNone, counters, entered_in, rounds_of, taken_of}
 use Rattle.steal_pool.specs.Closing.{Ended, HasUsedUp, Leaves}
 use Rattle.steal_pool.proofs.Accounts.{entered_weigh, same_weights, taken_weight}
-use Rattle.steal_pool.proofs.Counting.{Tell, ones, own_none, same_count, tallies}
+use Rattle.steal_pool.proofs.Counting.{ones, own_none, same_count, tallies}
 use Rattle.steal_pool.proofs.Ending.{all_entered, entered_in_weigh, none_made, own_only, sum_used}
 use Rattle.steal_pool.proofs.Listing.{all_get}
 use Rattle.steal_pool.proofs.Together.{entered_sum, put_sum, taken_of_weigh}

@@ -1,4 +1,4 @@
--- The steps of all workers in one order, told by each worker's account and by what each deque gives: nothing here speaks
+-- The steps of all workers in one order, given by each worker's account and by what each deque gives: nothing here speaks
 -- of the model's states.
 use Rattle.std.specs.Prelude.{◌≡◌, ◌≢◌, ◌⊎◌, ◌<◌, ◌≤◌, ℕ, zero, suc, ◌==◌, List, [], ◌∷◌, ◌++◌, length, flat_map, All, Option, Some, None, ⊤, if◌then◌else◌, slice_get}
 use Rattle.spec_trees.specs.declared.tree.Node.{Node}
@@ -67,9 +67,9 @@ TakesBelow n (Enter leaf) = ⊤
 abbrev pub IsNamed : ℕ → Event → Type 0
 IsNamed n e = (e.worker < n) × TakesBelow n e.act
 
--- The workers' acts in one order of all of them, in which they come to these accounts: the acts of each worker, in this
+-- The workers' acts in one order of all of them, which leads them to these accounts: the acts of each worker, in this
 -- order, are a history of its account from the opening on, and each deque keeps its rule. Of acts of different workers on
--- different deques nothing is asked: they may stand in any order.
+-- different deques nothing is required: they may stand in any order.
 pub record Interleaves (t : Rules) (root : Node) (events : List Event) (accounts : List Account) : Type 0 where
   pub some : 1 ≤ length accounts
   pub named : All (IsNamed (length accounts)) events

@@ -61,7 +61,7 @@ pub fn every_run_balances_accounts()
 {}
 
 /// States that the workers' acts, in whatever one order of all of them, are a run of the model from its opening state: each
-/// act is accepted as the step of its name, one after the other. Asked is no more than this: the acts of each worker, in
+/// act is accepted as the step of its name, one after the other. The premise is no more than this: the acts of each worker, in
 /// that order, are a history of its account, and at each moment what was taken from a deque is a beginning of what was put
 /// on it. The state that the run leads to has the hands and the local stacks of the accounts, on each deque what was put
 /// there less what was taken, and the entered leaves in the order of the list.
@@ -95,7 +95,7 @@ pub fn every_interleaving_keeps_the_laws()
 {}
 
 /// States that two neighbouring acts of different workers on different deques may change places: the list is then still
-/// one in which the workers come to the same accounts. So it does not matter that nobody knows in which order such acts
+/// one that leads the workers to the same accounts. So it does not matter that nobody knows in which order such acts
 /// were done.
 pub fn acts_on_different_deques_may_change_places()
     ensures { (t : Rules) (root : Node) (front : List Event) (d : Event) (e : Event) (back : List Event) (accounts : List Account)

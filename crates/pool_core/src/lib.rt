@@ -5,7 +5,7 @@
 //! that were entered so far, in order of arrival.
 //!
 //! - `specs/States` has the states and the steps, `specs/Tiling` and `specs/Accounted` what each run of steps keeps, and
-//!   `laws.rt` the laws of all runs. `specs/Interleaved` has the acts of all workers in one order, told by their accounts
+//!   `laws.rt` the laws of all runs. `specs/Interleaved` has the acts of all workers in one order, given by their accounts
 //!   and by what each deque gives, without a state of the model.
 //! - `worker.rt` has what one worker holds (hand, deque, local stack) and what each step does to it; `pool.rt` picks the
 //!   worker, and for a steal the two workers, and keeps the entered leaves.

@@ -20,7 +20,7 @@ HasUsedUp s = IsUsedUp s.worker.own.view
 abbrev pub AllUsedUp : List Seat → Type 0
 AllUsedUp ss = AllByRecursion HasUsedUp ss
 
--- where none keeps a refusal, each worked off its own deque; else they worked so far
+-- if none keeps a refusal, each worked off its own deque; else they worked so far
 pub record Drains (t : Rules) (ss qs : List Seat) : Type 0 where
   pub changes : AllZip (IsLater t) ss qs
   pub left : AllByRecursion (IsLeft t) qs

@@ -190,7 +190,8 @@ fn seats_or_stop(
 
 /// Ends a pool whose seats have all worked, and returns the ledger's seats in order. All stealers are joined, and each
 /// worker empties its own deque, unless a seat stopped early. Then the error is `Memory` if a seat ran out of it. Else
-/// it is `TooMany`, with the leaf of the first seat that met a full ledger. The call waits for the ledger's lock.
+/// it is `TooMany`, with the leaf of the first seat that met a full ledger. The call waits for the ledger's lock. It needs
+/// no memory for what it returns, since the first seat keeps room for that from `make` on.
 pub fn finish<'p, R: Wait, N: Naming, J: Judge, G: Gate>(
     rt: &R,
     alloc: Global,

@@ -3,12 +3,16 @@
 An edit has lines `file: PATH`, `old: TEXT` and `new: TEXT`, as `rt` reads them, and `only: MODULE::FUNCTION`, once for
 each function of which the proof has to be refused. Where no contract can refuse it, it has in place of these one line
 `run: CRATE MODULE::TEST`, of a test of that crate that has to fail, or `run: CRATE FILE ..`, of a program that has to
-fail over these files of its data. It stands in crates/CRATE/must-fail, planted/CRATE or mutations/CRATE."""
+fail over these files of its data. It stands in crates/CRATE/must-fail, planted/CRATE or mutations/CRATE.
+
+A text of `old:` stands once in its file. In planted/ and mutations/ it may also stand elsewhere in the file, if it stands
+once in the lines of the functions that `only:` names; `rt`, which reads must-fail/, takes no such edit."""
 
 import os
 import re
 from dataclasses import dataclass
-from typing import Dict, FrozenSet, List, Tuple
+from functools import lru_cache
+from typing import Dict, FrozenSet, List, Sequence, Tuple
 
 FOLDERS = ("crates/*/must-fail", "planted/*", "mutations/*")
 READ = ("src/", "specs/", "proofs/")
@@ -45,6 +49,11 @@ class Edit:
     def name(self) -> str:
         """The crate and the file's name without its ending."""
         return f"{self.crate}/{os.path.basename(self.path)[: -len('.edit')]}"
+
+    @property
+    def is_of_rt(self) -> bool:
+        """Whether `rt` tries it, in must-fail/."""
+        return os.path.basename(os.path.dirname(self.path)) == "must-fail"
 
 
 @dataclass(frozen=True)
@@ -111,13 +120,24 @@ def planted(edit: Edit, folder: str, texts: Dict[str, str]) -> Dict[str, str]:
     made = dict(texts)
     for pair in edit.pairs:
         text = made[pair.file] if pair.file in made else text_of(f"{folder}/{pair.file}")
-        found = text.count(pair.old)
-        if found != 1:
-            raise BadEdit(f"its old: text stands {found} times in {pair.file}")
-        made[pair.file] = text.replace(pair.old, pair.new)
+        at = place_of(edit, pair, folder, text)
+        made[pair.file] = text[:at] + pair.new + text[at + len(pair.old) :]
     if made == texts:
         raise BadEdit("it changes nothing")
     return made
+
+
+def place_of(edit: Edit, pair: Pair, folder: str, text: str) -> int:
+    """Where the `old:` text stands: once in the text, or once in the lines of the functions that the edit names. An edit
+    changes no number of lines, so these lines are those of the file as it stands."""
+    places = [it.start() for it in re.finditer(re.escape(pair.old), text)]
+    if len(places) > 1 and not edit.is_of_rt:
+        named = [it for it in functions_of(folder) if it.file == pair.file and any(is_named(it, only) for only in edit.only)]
+        lines = [text.count("\n", 0, at) + 1 for at in places]
+        places = [at for at, line in zip(places, lines) if any(it.first <= line <= it.last for it in named)]
+    if len(places) != 1:
+        raise BadEdit(f"its old: text stands {text.count(pair.old)} times in {pair.file}")
+    return places[0]
 
 
 def blanked(text: str) -> str:
@@ -151,14 +171,15 @@ def owners_of(trait: str, kind: str, module: str, homes: Dict[str, List[str]]) -
     return [f"{place}{it}::" for place in places for it in joins]
 
 
-def functions_of(folder: str) -> List[Function]:
+@lru_cache(maxsize=None)
+def functions_of(folder: str) -> Tuple[Function, ...]:
     """The functions of a crate, in the order of its files."""
     sources = sources_of(folder)
     homes: Dict[str, List[str]] = {}
     for file, text in sources.items():
         for name in TYPE.findall(text):
             homes.setdefault(name, []).append(module_of(file))
-    return [it for file in sorted(sources) for it in functions_in(file, sources[file].split("\n"), homes)]
+    return tuple(it for file in sorted(sources) for it in functions_in(file, sources[file].split("\n"), homes))
 
 
 def functions_in(file: str, lines: List[str], homes: Dict[str, List[str]]) -> List[Function]:
@@ -173,10 +194,19 @@ def functions_in(file: str, lines: List[str], homes: Dict[str, List[str]]) -> Li
             owners = [module_of(file)]
         head = FUNCTION.match(line)
         if head:
-            ends = (head[1] + "}", head[1] + "{}")
-            last = next((it for it in range(at, len(lines)) if lines[it].rstrip() in ends), at)
+            last = end_of_function(lines, at, head[1])
             found.append(Function(file, at + 1, last + 1, frozenset(f"{it}{head[2]}" for it in owners)))
     return found
+
+
+def end_of_function(lines: List[str], at: int, indent: str) -> int:
+    """The line at which a function ends: that of the brace below its first letter, or its own where a trait gives it no body."""
+    for end in range(at, len(lines)):
+        if lines[end].rstrip() in (indent + "}", indent + "{}"):
+            return end
+        if end > at and (FUNCTION.match(lines[end]) or lines[end].startswith("}")):
+            break
+    return at
 
 
 def is_named(function: Function, only: str) -> bool:
@@ -189,11 +219,19 @@ def lines_of(edit: Edit, folder: str) -> List[Tuple[str, int]]:
     found = []
     for pair in edit.pairs:
         text = text_of(f"{folder}/{pair.file}")
-        found.append((pair.file, text.count("\n", 0, max(text.find(pair.old), 0)) + 1))
+        found.append((pair.file, text.count("\n", 0, place_in_file(edit, pair, folder, text)) + 1))
     return found
 
 
-def struck(edit: Edit, folder: str, functions: List[Function]) -> List[Function]:
+def place_in_file(edit: Edit, pair: Pair, folder: str, text: str) -> int:
+    """Where the `old:` text stands in the file as it is; at its start, if only the pairs before it write it."""
+    try:
+        return place_of(edit, pair, folder, text)
+    except BadEdit:
+        return max(text.find(pair.old), 0)
+
+
+def struck(edit: Edit, folder: str, functions: Sequence[Function]) -> List[Function]:
     """The functions in whose lines the edit's `old:` texts stand; none where one stands outside of all functions."""
     found: List[Function] = []
     for file, line in lines_of(edit, folder):

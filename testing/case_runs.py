@@ -24,7 +24,7 @@ VARIABLES = {"shelf": "FINDER_SHELF", "out-sink": "FINDER_OUT_SINK", "err-sink":
 
 
 class NoDevices(Exception):
-    """This machine cannot compile the devices that fail."""
+    """This machine cannot compile what is preloaded, as the devices that fail."""
 
 
 @dataclass(frozen=True)
@@ -47,16 +47,20 @@ class Tally:
     why_skipped: str = ""
 
 
-def build_devices(folder: Path) -> Path:
-    """Compiles the devices that fail into a library, which is then preloaded."""
+def build_library(source: Path, library: Path) -> Path:
+    """Compiles a file in C into a library, which is then preloaded."""
     compiler = next((found for found in map(shutil.which, COMPILERS) if found), None)
     if compiler is None:
         raise NoDevices(f"there is no C compiler here ({', '.join(COMPILERS)})")
-    if subprocess.run([compiler, "-E", str(SOURCE)], capture_output=True, check=False).returncode:
+    if subprocess.run([compiler, "-E", str(source)], capture_output=True, check=False).returncode:
         raise NoDevices(f"{compiler} finds no headers of the C library here")
-    library = folder / "devices.so"
-    subprocess.run([compiler, "-shared", "-fPIC", "-O1", "-o", str(library), str(SOURCE)], check=True)
+    subprocess.run([compiler, "-shared", "-fPIC", "-O1", "-o", str(library), str(source), "-ldl"], check=True)
     return library
+
+
+def build_devices(folder: Path) -> Path:
+    """Compiles the devices that fail into a library, which is then preloaded."""
+    return build_library(SOURCE, folder / "devices.so")
 
 
 def needs_devices(case: Case) -> bool:

@@ -136,7 +136,7 @@ impl BlockReader {
     /// Reads the next line. Errors: `Fault` at the first line that breaks a rule and at every line after it;
     /// `Memory`, after which the reader is as it was before the line.
     #[inline(always)]
-    pub fn read_line(&mut self, line: &Line<'_>) -> Result<(), BlockError>
+    pub fn line(&mut self, line: &Line<'_>) -> Result<(), BlockError>
         ensures says { IsNotMemory result → HasRead self.old line.now self.new }
         ensures answer { IsNotMemory result → result ≡ answer (says 0 self.new []) }
         ensures not_refused { result ≡ Ok tt → IsNotRefused self.new }

@@ -472,7 +472,7 @@ impl HeaderReader {
     /// Reads the next line. Returns `Done` at the line that ends the header, and `More` before it. Errors: `Fault` at
     /// the first line that breaks a rule, and at every line after it. A line does not allocate, so that `Memory`
     /// never comes here.
-    pub fn read_line(&mut self, line: &Line<'_>) -> Result<Step, HeaderError>
+    pub fn line(&mut self, line: &Line<'_>) -> Result<Step, HeaderError>
         requires { IsNotWhole self.old }
         ensures says { HasRead self.old line.now self.new }
         ensures answer { result ≡ answer (says 0 self.new []) }

@@ -18,7 +18,7 @@ use crate::rows::{
 use crate::vectors::{SECOND, TARGET, TARGET_VELOCITY, plane_cross, plane_dot};
 use eph_model::Ephemeris;
 use event_expr::{Expr, Formula};
-use occult_spheres::occultation_parts;
+use occult_spheres::occult;
 use spec_events::Dir;
 use spec_kinds::{Ask, Kind, Shadow};
 use std::alloc::{AllocError, Global};
@@ -106,7 +106,7 @@ fn occultation_event(alloc: Global, shadow: Shadow, ask: Ask) -> Result<Event, A
       dir = ask.dir;
     }) }
 {
-    let parts = occultation_parts(alloc, shadow, ask.value1, ask.value2)?;
+    let parts = occult(alloc, shadow, ask.value1, ask.value2)?;
     let guards = guards_of_pairs(alloc, parts.guards)?;
     Ok(Event {
         f: parts.f,

@@ -20,9 +20,9 @@ pub(crate) struct Answer {
     pub(crate) err: MemorySink,
 }
 
-// Makes an output in memory that takes at most `room` bytes, and at most `PIECE` of them at once. The only error is out
-// of memory.
-fn memory_output(alloc: Global, room: usize) -> Result<MemorySink, AllocError> {
+/// Makes an output in memory that takes at most `room` bytes, and at most `PIECE` of them at once. The only error is
+/// out of memory.
+pub(crate) fn memory_output(alloc: Global, room: usize) -> Result<MemorySink, AllocError> {
     MemorySink::new(alloc, room, PIECE, Vec::new(alloc))
 }
 

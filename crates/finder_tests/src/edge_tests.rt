@@ -1,6 +1,6 @@
 // Tests of the system's files and streams: that calls succeed, and which bytes reach a file and come back. No clause
 // can say this; shelves and sinks in memory have exact clauses.
-use gf_edges::{Failed, FileShelf, Gate, OpenGate, Shelf, Sink, StdSink};
+use gf_edges::{Failed, FileShelf, Gate, OpenGate, Shelf, Sink, StdSink, SystemFiles};
 use std::alloc::{AllocError, Global};
 use std::fs;
 use std::test::Fail;
@@ -48,7 +48,7 @@ fn every_byte_that_a_stream_takes_is_read_of_its_file(rt: HostRuntime) -> Result
     let text = bytes_of_numbers(rt.alloc())?;
     let mut sink = StdSink::new(fs::create(&rt, NAME)?);
     assert!(rt; takes_whole_text(&mut sink, &text)?);
-    let mut shelf = FileShelf::new(&rt);
+    let mut shelf = FileShelf::new(SystemFiles::new(&rt));
     shelf.open(NAME)?;
     assert!(rt; gives_whole_text(&mut shelf, &text)?);
     fs::remove_file(&rt, NAME)?;

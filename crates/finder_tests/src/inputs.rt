@@ -50,14 +50,17 @@ pub(crate) struct NotingShelf {
     opened: Vec<u8>,
 }
 
-// Returns a file for a shelf in memory, as its name and its bytes. The only error is out of memory.
+// Returns a file in memory, as its name and its bytes. The only error is out of memory.
 fn memory_file(alloc: Global, name: &str, text: &str) -> Result<(String, Vec<u8>), AllocError> {
     let bytes = text.as_bytes().to_vec(alloc)?;
     Ok((String::from_str(alloc, name)?, bytes))
 }
 
-// Returns files for a shelf in memory: `a`, `b` and `c`, with these texts. The only error is out of memory.
-fn three_files(alloc: Global, texts: [&str; 3]) -> Result<Vec<(String, Vec<u8>)>, AllocError> {
+/// Returns files in memory: `a`, `b` and `c`, with these texts. The only error is out of memory.
+pub(crate) fn three_files(
+    alloc: Global,
+    texts: [&str; 3],
+) -> Result<Vec<(String, Vec<u8>)>, AllocError> {
     let mut files = Vec::new(alloc);
     for (name, text) in [("a", texts[0]), ("b", texts[1]), ("c", texts[2])] {
         files.push(memory_file(alloc, name, text)?)?;

@@ -22,8 +22,11 @@ pub record SinkState : Type 0 where
   pub calls : ℕ
   pub faults : ℕ
 
--- the files of the system: whether one is open, what is left of it where the system tells, and the faults so far
+-- files that an opener gives: all of them where it tells, whether each of these opens, whether one is open, what is left
+-- of that where it tells, and the faults so far
 pub record FilesState : Type 0 where
+  pub files : Option Files
+  pub opens_all : Bool
   pub is_open : Bool
   pub left : Option (List ℕ)
   pub faults : ℕ

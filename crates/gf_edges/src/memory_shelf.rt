@@ -45,7 +45,7 @@ impl Model for MemoryShelf {
 
 // Returns the index of the first file with this name, or `None` if no file has it. It is apart from `open` because its
 // loop needs an invariant.
-fn index_of_file(files: &[(String, Vec<u8>)], name: &str) -> Option<usize>
+pub(crate) fn index_of_file(files: &[(String, Vec<u8>)], name: &str) -> Option<usize>
     ensures absent { IfNone result (file_of name.now (entries files.now) ≡ None) }
     ensures there { IfSome result (λ i.
         file_of name.now (entries files.now) ≡ Some (bytes_at files.now i)) }
@@ -60,7 +60,7 @@ fn index_of_file(files: &[(String, Vec<u8>)], name: &str) -> Option<usize>
 
 // Returns the bytes from byte `at` on of the file at an index, or none if there is no such file or byte. The clause
 // `fits` lets the reader add what it read to `at` without overflow.
-fn unread_bytes(files: &[(String, Vec<u8>)], index: usize, at: usize) -> &[u8]
+pub(crate) fn unread_bytes(files: &[(String, Vec<u8>)], index: usize, at: usize) -> &[u8]
     ensures bytes { result.now ≡ drop at (bytes_at files.now index) }
     ensures fits { 0 < length result.now → at + length result.now < 2 ^ 64 }
 {

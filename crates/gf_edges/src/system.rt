@@ -1,107 +1,39 @@
-// The files and the streams of the system. Contracts know of their content what the system tells, which is nothing of
-// a real file or of standard output. Each call that fails is counted.
-ghost use Rattle.std.specs.Prelude.{◌≡◌, false};
+// The files and the streams of the system. Contracts know of their content what the system reports, which is nothing of
+// a file or of standard output. Each call of a stream that fails is counted.
+ghost use Rattle.std.specs.Prelude.{◌≡◌};
 
-use crate::{Failed, Shelf, Sink};
-use std::fs;
-use std::io::{Read, Write};
+use crate::{Failed, OpenNamed, Sink};
+use std::io::Write;
 use std::marker::Model;
-use std::rt::{Files, Stderr, Stdout};
+use std::rt::{Stderr, Stdout};
+use std::{fs, io};
 
 /// The files of the system, by their paths.
 #[derive(Drop)]
-pub struct FileShelf<'a, R: Files> {
+pub struct SystemFiles<'a, R: std::rt::Files> {
     files: &'a R,
-    file: Option<R::File>,
-    faults: u64,
 }
 
-impl<'a, R: Files> Model for FileShelf<'a, R> {
-    ghost use Rattle.std.specs.Prelude.{◌<◌, ◌^◌, is_some};
-    ghost use Rattle.gf_edges.specs.States.{FilesState, left_of};
-
-    ghost Value = { FilesState };
-
-    ghost view = { λ s. record {
-      is_open = is_some s.file;
-      left = left_of R.File.remaining s.file;
-      faults = s.faults;
-    } };
-
-    ghost invariant = { λ s. s.faults < 2 ^ 64 };
-}
-
-impl<'a, R: Files> FileShelf<'a, R> {
-    /// Makes a shelf of the files that this runtime reaches, by their paths, with no file open and no fault counted.
-    pub fn new(files: &'a R) -> Self
-        ensures closed { result.is_open ≡ false }
-        ensures at_start { result.faults ≡ 0 }
-    {
-        FileShelf {
-            files,
-            file: None,
-            faults: 0,
-        }
+impl<'a, R: std::rt::Files> SystemFiles<'a, R> {
+    /// Makes an opener of the files that this runtime reaches, by their paths.
+    pub fn new(files: &'a R) -> Self {
+        SystemFiles { files }
     }
 }
 
-impl<'a, R: Files> Shelf for FileShelf<'a, R> {
-    ghost use Rattle.std.specs.Prelude.{◌⊎◌, ◌<◌, ◌≤◌, ◌^◌, IsErr, IsTrue, OnErr, OnOk, None};
-    ghost use Rattle.std.specs.Io.{ReadsAtMost};
-    ghost use Rattle.std.specs.Io.KnownBytes.{ReadConsumes};
-    ghost use Rattle.gf_edges.specs.Edges.{HasCause, Lacks, Opens, Rose};
-    ghost use Rattle.gf_edges.specs.States.{RisesWhere};
+// `open_named` is one call of the system. No contract says which file it opens, or that the bytes of that file are the
+// ones that are read: this line is trusted.
+impl<'a, R: std::rt::Files> OpenNamed for SystemFiles<'a, R> {
+    ghost use Rattle.std.specs.Prelude.{None, false};
 
-    ghost files = { λ _. None };
+    type File = R::File;
 
-    ghost left = { λ s. s.left };
+    ghost texts = { λ _. None };
 
-    ghost ready = { λ s. IsTrue s.is_open };
+    ghost opens_all = { λ _. false };
 
-    ghost faults = { λ s. s.faults };
-
-    // Opens the file at this path of the system before its first byte, and closes the one that was open. The count of
-    // faults rises exactly if this fails, and no file is open then.
-    fn open(&mut self, name: &str) -> Result<(), Failed>
-        ensures ready { OnOk result (IsTrue self.new.is_open) }
-        ensures bytes { OnOk result (Opens None name.now self.new.left) }
-        ensures failed { OnErr result (Rose self.old.faults self.new.faults ⊎ Lacks None name.now) }
-        ensures closed { OnErr result (IsTrue self.new.is_open → ⊥) }
-        ensures later { self.old.faults ≤ self.new.faults }
-        ensures count { self.new.faults < 2 ^ 64 }
-        ensures faults { RisesWhere (IsErr result) self.old.faults self.new.faults }
-    {
-        match fs::open(self.files, name) {
-            Ok(file) => {
-                self.file = Some(file);
-                Ok(())
-            }
-            Err(_) => {
-                self.file = None;
-                self.faults = self.faults.saturating_add(1);
-                Err(Failed)
-            }
-        }
-    }
-
-    // Reads the next bytes of the open file into the front of the buffer, and returns how many. The count of faults
-    // rises exactly if this fails; the file stays open then.
-    fn read(&mut self, buf: &mut [u8]) -> Result<usize, Failed>
-        requires { IsTrue self.old.is_open }
-        ensures ready { IsTrue self.new.is_open }
-        ensures bound { ReadsAtMost result buf.new }
-        ensures bytes { ReadConsumes self.old.left self.new.left result buf.new }
-        ensures cause { HasCause self.old.faults self.new.faults result }
-        ensures count { self.new.faults < 2 ^ 64 }
-        ensures faults { RisesWhere (IsErr result) self.old.faults self.new.faults }
-    {
-        if let Some(file) = &mut self.file {
-            if let Ok(count) = file.read(buf) {
-                return Ok(count);
-            }
-        }
-        self.faults = self.faults.saturating_add(1);
-        Err(Failed)
+    fn open_named(&self, name: &str) -> io::Result<R::File> {
+        fs::open(self.files, name)
     }
 }
 

@@ -65,7 +65,7 @@ fn take_header_line(
     requires { WantsMore reader }
     ensures { Moves (readers.Header reader) line.now result }
 {
-    match reader.read_line(line)? {
+    match reader.line(line)? {
         Step::More => Ok(Reader::Header(reader)),
         Step::Done => begin_blocks(alloc, reader, line),
     }
@@ -78,7 +78,7 @@ fn take_block_line(reader: &mut BlockReader, line: &Line<'_>) -> Result<(), Read
     ensures { Moves (readers.Blocks reader.old) line.now
         (moved result (readers.Blocks reader.new)) }
 {
-    reader.read_line(line)?;
+    reader.line(line)?;
     Ok(())
 }
 

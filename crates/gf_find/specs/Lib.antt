@@ -11,3 +11,4 @@ pub mod Sets
 pub mod Scalars
 pub mod Texts
 pub mod Reported
+pub mod Runs

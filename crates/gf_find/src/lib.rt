@@ -1,6 +1,7 @@
 //! The program as a whole: words and the bytes of files come in, and a report, a summary or the line of a fault goes out,
 //! with a status. Each command has a module of its own, and a record of `specs/` that says what it reports. What is public
-//! is the call itself with its statuses, and the types of which its contract speaks: why a run is refused, and spans.
+//! is the call `finder` with its statuses, `run`, by which `main` makes it, and the types of which the contract speaks: why a
+//! run is refused, and spans.
 #![tactic(auto)]
 
 mod answer;
@@ -12,6 +13,7 @@ mod find;
 mod generated;
 mod laws;
 mod messages;
+mod runs;
 mod scalar;
 mod searched;
 mod set;
@@ -21,6 +23,7 @@ mod verify;
 mod writing;
 
 pub use laws::{a_run_has_one_outcome, the_number_of_workers_changes_no_byte};
+pub use runs::run;
 pub use spec_outcomes::{
     CERTIFICATE_REFUSED, EVENT_REFUSED, FILES_REFUSED, NOT_READ, NOT_WRITTEN, OUT_OF_MEMORY,
     REPORTED, Refusal, SPAN_REFUSED, Span, TOO_MANY_LEAVES, WORDS_REFUSED,

@@ -184,7 +184,7 @@ fn write_refusal<E: Sink>(alloc: Global, err: &mut E, refusal: &Refusal) -> u8
 }
 
 // Writes the line that reports out of memory to `err`, and returns the status for it.
-fn write_out_of_memory<E: Sink>(err: &mut E) -> u8
+pub(crate) fn write_out_of_memory<E: Sink>(err: &mut E) -> u8
     ensures status { result ≡ OUT_OF_MEMORY }
     ensures line { Receives E.bytes E.faults err.old err.new memory_text }
 {

@@ -8,5 +8,5 @@ mod parts;
 mod terms;
 
 pub use event_expr::Formula;
-pub use parts::{Memory, OccultParts, occultation_parts};
+pub use parts::{Memory, OccultParts, occult};
 pub use spec_kinds::Shadow;

@@ -26,7 +26,7 @@ pub struct OccultParts {
 /// `gfoclt` has it. Radii are in km, at least 0 and below 2^36. For an observer outside both spheres the function is at
 /// least 0 exactly while the discs overlap (`Any`), or one lies within the other (`Full`, `Annular`). The guards say
 /// that the front body is no farther than the other, and which disc is the larger. The only error is out of memory.
-pub fn occultation_parts(
+pub fn occult(
     alloc: Global,
     kind: Shadow,
     front: Decimal,

@@ -6,3 +6,7 @@ mod Beginning
 mod Accounting
 mod RunBalances
 mod Stepping
+mod Interleaving
+pub mod Interleaved
+mod Telling
+mod Exchanging

@@ -3,3 +3,4 @@ pub mod Tiling
 pub mod Accounted
 pub mod Examples
 pub mod Views
+pub mod Interleaved

@@ -103,7 +103,7 @@ pub record Steals (w from : ℕ) (xs ys : List Holding) : Type 0 where
   pub gives : At from (GivesUp node) xs between
   pub gets : At w (Gets node) between ys
 
--- the state s accepts the step, and comes to be s'
+-- the state s accepts the step, and becomes s'
 abbrev pub Steps : Rules → State → Step → State → Type 0
 Steps t s (Push w) s' = At w (Pushes t) s.workers s'.workers × (s'.entered ≡ s.entered)
 Steps t s (Keep w) s' = At w (Keeps t) s.workers s'.workers × (s'.entered ≡ s.entered)

@@ -88,7 +88,7 @@ impl<J: Judge> Pool<J> {
     }
 
     /// Returns the leaves that were entered so far, in order of arrival.
-    pub fn entered_leaves(&self) -> &[Leaf]
+    pub fn entered(&self) -> &[Leaf]
         ensures { result.now ≡ self.now.state.entered }
     {
         self.entered.as_slice()

@@ -54,7 +54,7 @@ fn ten_steps_enter_four_leaves(rt: HostRuntime) -> Result<(), Fail> {
     ];
     assert!(rt; pool_ends_after(&mut pool, steps.as_slice()));
     let begins = [1_339_200, 1_339_000, 1_339_100, 1_339_150];
-    assert!(rt; leaves_start_at(pool.entered_leaves(), begins.as_slice()));
+    assert!(rt; leaves_start_at(pool.entered(), begins.as_slice()));
     Ok(())
 }
 
@@ -80,7 +80,7 @@ fn the_opening_state_refuses_steps(rt: HostRuntime) -> Result<(), Fail> {
     ] {
         assert!(rt; pool_refuses(&mut pool, step));
     }
-    assert!(rt; pool.entered_leaves().is_empty());
+    assert!(rt; pool.entered().is_empty());
     assert!(rt; pool.step(Step::Keep { w: 0 }).is_ok());
     assert!(rt; pool_refuses(&mut pool, Step::TakeKept { w: 0 }));
     assert!(rt; pool_refuses(&mut pool, Step::Pop { w: 1 }));

@@ -1,3 +1,4 @@
 pub mod Accounts
+pub mod Acts
 pub mod History
 pub mod Marks

@@ -16,7 +16,7 @@ use Rattle.spec_pool.proofs.Finding.{nodes_permuted, leaves_permuted}
 use Rattle.spec_pool.proofs.Hands.{weigh_hand, hand_weigh}
 use Rattle.spec_pool.proofs.Weights.{weigh, weigh-append, weigh-push, weigh-flat, weigh-map, weigh-set, sum_is_weigh}
 use Rattle.steal_pool.specs.Rule.{DequeId, End, takes_one}
-use Rattle.steal_pool.specs.Workers.{Holder, taken_by, after_empty_pop, on_deque, on_stack, with_hand, IsSplit, IsRight, TookOne, Takes, TakesInOrder, TakesOwn, TakesOther, FindsNone}
+use Rattle.steal_pool.specs.Workers.{Holder, taken_by, after_empty_pop, on_deque, on_stack, with_hand, IsSplit, IsRight, TookOne, Takes, TakesInOrder, TakesOwn, TakesOther}
 use Rattle.steal_pool.specs.Seats.{IsLike, account_of, entered_by, Gets, place_of, rules_within, ways, ways_of}
 
 -- ---- weights of an account
@@ -48,8 +48,8 @@ Does t w p v q put taken entered =
     × ((h : Leaf → ℕ) → entered_weight h q ≡ entered_weight h p + weigh h entered)
     × ((h : Leaf → ℕ) → own_weight t h w + weigh (by_leaves t h) taken ≡ weigh h entered + weigh (by_leaves t h) put + own_weight t h v)
 
-abbrev pub Worked : Rules → Holder → SeatHistory → Holder → SeatHistory → Type 0
-Worked t w p v q = (b : Account) × Balances t (account_of w p) b × IsLike b (account_of v q)
+abbrev pub Weighs : Rules → Holder → SeatHistory → Holder → SeatHistory → Type 0
+Weighs t w p v q = (b : Account) × Balances t (account_of w p) b × IsLike b (account_of v q)
 
 own_weigh : (t : Rules) (h : Leaf → ℕ) (a : Account) → weigh h (leaves_of t (own a)) ≡ weigh_hand (by_leaves t h) a.hand + weigh (by_leaves t h) a.kept
 own_weigh t h a =
@@ -73,7 +73,7 @@ module _ (t : Rules) (w : Holder) (p : SeatHistory) (v : Holder) (q : SeatHistor
   after : List Node → List Leaf → Account
   after taken entered = record { hand = v.hand; kept = v.kept; put = v.own.view.put; taken = taken_by w ++ taken; entered = entered_by p ++ entered }
 
-  pub works : (put taken : List Node) (entered : List Leaf) → Does t w p v q put taken entered → Worked t w p v q
+  pub works : (put taken : List Node) (entered : List Leaf) → Does t w p v q put taken entered → Weighs t w p v q
   unfolding after
   works put taken entered d = (
     after taken entered,
@@ -96,7 +96,7 @@ module _ (t : Rules) (w : Holder) (p : SeatHistory) (v : Holder) (q : SeatHistor
     },
   )
 
-  pub does : Worked t w p v q → (put : List Node) × (taken : List Node) × (entered : List Leaf) × Does t w p v q put taken entered
+  pub does : Weighs t w p v q → (put : List Node) × (taken : List Node) × (entered : List Leaf) × Does t w p v q put taken entered
   does (b, m, like) = (
     m.put,
     m.taken,
@@ -116,7 +116,7 @@ module _ (t : Rules) (w : Holder) (p : SeatHistory) (v : Holder) (q : SeatHistor
     ),
   )
 
-pub works_more : (t : Rules) (w : Holder) (p : SeatHistory) (v : Holder) (q : SeatHistory) (u : Holder) (r : SeatHistory) → Worked t w p v q → Worked t v q u r → Worked t w p u r
+pub works_more : (t : Rules) (w : Holder) (p : SeatHistory) (v : Holder) (q : SeatHistory) (u : Holder) (r : SeatHistory) → Weighs t w p v q → Weighs t v q u r → Weighs t w p u r
 works_more t w p v q u r a b =
     let x = does t w p v q a in
     let y = does t v q u r b in
@@ -137,7 +137,7 @@ works_more t w p v q u r a b =
     )
 
 -- nothing but the part's other lists, and the count of nodes put, has changed
-pub idle_works : (t : Rules) (w : Holder) (p : SeatHistory) (v : Holder) (q : SeatHistory) → v.own ≡ w.own → v.stealers ≡ w.stealers → v.hand ≡ w.hand → v.kept ≡ w.kept → q.mine ≡ p.mine → q.again ≡ p.again → Worked t w p v q
+pub idle_works : (t : Rules) (w : Holder) (p : SeatHistory) (v : Holder) (q : SeatHistory) → v.own ≡ w.own → v.stealers ≡ w.stealers → v.hand ≡ w.hand → v.kept ≡ w.kept → q.mine ≡ p.mine → q.again ≡ p.again → Weighs t w p v q
 idle_works t w p v q own stealers hand kept mine again = works t w p v q [] [] [] (
   ap (λ (e : End). e.view.put) own ∙ sym (append-nil w.own.view.put),
   (λ h. omega (arith, ap (λ (e : End). weigh h e.view.taken) own, ap (weigh (λ (e : End). weigh h e.view.taken)) stealers)),
@@ -229,7 +229,7 @@ gets n w v p none (inr (inl (filled, oldest, e))) = from_deque n w v p none (ap 
 gets n w v p none (inr (inr (filled, used, t))) = gets_in_order n (after_empty_pop w) v p none t
 
 -- ---- each balances
-own_works : (t : Rules) (n : Node) (w v : Holder) (p : SeatHistory) → w.hand ≡ None → TakesOwn n w v → Worked t w p v p
+own_works : (t : Rules) (n : Node) (w v : Holder) (p : SeatHistory) → w.hand ≡ None → TakesOwn n w v → Weighs t w p v p
 own_works t n w v p none e = works t w p v p [] (n ∷ []) [] (
   ap (λ (u : Holder). u.own.view.put) e ∙ sym (append-nil w.own.view.put),
   (λ h. omega (arith, taken_more h n w v (inl e))),
@@ -237,7 +237,7 @@ own_works t n w v p none e = works t w p v p [] (n ∷ []) [] (
   (λ h. omega (arith, ap (own_weight t h) e, ap (weigh_hand (by_leaves t h)) none)),
 )
 
-in_order_works : (t : Rules) (n : Node) (w v : Holder) (p : SeatHistory) → w.hand ≡ None → TakesInOrder n w v → Worked t w p v p
+in_order_works : (t : Rules) (n : Node) (w v : Holder) (p : SeatHistory) → w.hand ≡ None → TakesInOrder n w v → Weighs t w p v p
 in_order_works t n w v p none (inl (rest, top, e)) = works t w p v p [] [] [] (
   ap (λ (u : Holder). u.own.view.put) e ∙ sym (append-nil w.own.view.put),
   (λ h. omega (arith, ap (taken_weight h) e)),
@@ -252,14 +252,10 @@ in_order_works t n w v p none (inr (inr (empty, used, (es, took, e)))) = works t
   (λ h. omega (arith, ap (own_weight t h) e, ap (weigh_hand (by_leaves t h)) none)),
 )
 
-pub takes_works : (t : Rules) (n : Node) (w v : Holder) (p : SeatHistory) → w.hand ≡ None → Takes n w v → Worked t w p v p
+pub takes_works : (t : Rules) (n : Node) (w v : Holder) (p : SeatHistory) → w.hand ≡ None → Takes n w v → Weighs t w p v p
 takes_works t n w v p none (inl o) = in_order_works t n w v p none o
 takes_works t n w v p none (inr (inl (filled, oldest, e))) = own_works t n w v p none e
 takes_works t n w v p none (inr (inr (filled, used, o))) = in_order_works t n (after_empty_pop w) v p none o
-
-pub none_works : (t : Rules) (w v : Holder) (p : SeatHistory) → FindsNone w v → Worked t w p v p
-none_works t w v p f = idle_works t w p v p
-    (ap (λ (u : Holder). u.own) f.2) (ap (λ (u : Holder). u.stealers) f.2) (ap (λ (u : Holder). u.hand) f.2) (ap (λ (u : Holder). u.kept) f.2) refl refl
 
 split_weigh : (t : Rules) → IsSound t → (n left right : Node) → IsValid t n → t.verdict n ≡ Split → t.parts n ≡ (left, right) → (h : Leaf → ℕ) → by_leaves t h n ≡ by_leaves t h left + by_leaves t h right
 split_weigh t sound n left right v e parts h = omega (
@@ -270,7 +266,7 @@ split_weigh t sound n left right v e parts h = omega (
   ap (λ (y : Node × Node). by_leaves t h y.1) parts,
 )
 
-pub split_works : (t : Rules) (w v : Holder) (p : SeatHistory) (left right : Node) → IsSound t → ((n : Node) → w.hand ≡ Some n → IsValid t n) → IsSplit t w left right → (v ≡ on_deque w left right) ⊎ (v ≡ on_stack w left right) → Worked t w p v p
+pub split_works : (t : Rules) (w v : Holder) (p : SeatHistory) (left right : Node) → IsSound t → ((n : Node) → w.hand ≡ Some n → IsValid t n) → IsSplit t w left right → (v ≡ on_deque w left right) ⊎ (v ≡ on_stack w left right) → Weighs t w p v p
 split_works t w v p left right sound valid (n, hand, split, parts) (inl e) = works t w p v p (right ∷ []) [] [] (
   ap (λ (u : Holder). u.own.view.put) e,
   (λ h. omega (arith, ap (taken_weight h) e)),
@@ -286,7 +282,7 @@ split_works t w v p left right sound valid (n, hand, split, parts) (inr e) = wor
 
 -- a leaf is entered
 pub enter_works : (t : Rules) (w v : Holder) (p q : SeatHistory) (n : Node) (m : Mark) → IsSound t → IsValid t n → mark_of (t.verdict n) ≡ Some m → w.hand ≡ Some n → v ≡ with_hand w None
-    → ((h : Leaf → ℕ) → entered_weight h q ≡ entered_weight h p + h (leaf_of n m)) → Worked t w p v q
+    → ((h : Leaf → ℕ) → entered_weight h q ≡ entered_weight h p + h (leaf_of n m)) → Weighs t w p v q
 enter_works t w v p q n m sound valid marked hand e entered = works t w p v q [] [] (leaf_of n m ∷ []) (
   ap (λ (u : Holder). u.own.view.put) e ∙ sym (append-nil w.own.view.put),
   (λ h. omega (arith, ap (taken_weight h) e)),

@@ -1,5 +1,5 @@
 -- Seats that are opened, and get their stealers.
-use Rattle.std.proofs.Common.{◌≡◌, ◌≢◌, inl, inr, ℕ, suc, ◌+◌, ◌<◌, ◌==◌, List, [], ◌∷◌, ◌++◌, map, flat_map, length, Option, Some, get_or, Result, Ok, Err, OnOk, slice_get, slice_set, sum_by, if◌then◌else◌, append_assoc, refl, sym, ap, ◌∙◌, subst, arith}
+use Rattle.std.proofs.Common.{◌≡◌, ◌≢◌, inl, inr, ℕ, suc, ◌+◌, ◌<◌, ◌≤◌, ◌==◌, List, [], ◌∷◌, ◌++◌, map, flat_map, length, Option, Some, get_or, Result, Ok, Err, OnOk, slice_get, slice_set, sum_by, if◌then◌else◌, append_assoc, refl, sym, ap, ◌∙◌, subst, arith}
 use Rattle.std.proofs.lemmas.Bool.{cases_eq}
 use Rattle.std.proofs.lemmas.Bool.Decides.{nat_tests}
 use Rattle.std.proofs.lemmas.Option.{get_or_from_slice_get, slice_get-get_or}
@@ -14,7 +14,7 @@ use Rattle.span_ledger.specs.Seats.{AreNew, IsSeatOf, part, table_of, terms}
 use Rattle.steal_pool.specs.Rule.{DequeId, End}
 use Rattle.steal_pool.specs.declared.view.DequeView.{DequeView}
 use Rattle.steal_pool.specs.Workers.{new_stealer}
-use Rattle.steal_pool.specs.Seats.{NewSeat, Seat, SeatLinks, place_of, ways}
+use Rattle.steal_pool.specs.Seats.{NewSeat, Seat, SeatLinks, place_of, ways, first_room}
 use Rattle.steal_pool.specs.Pools.{AllBegin, AreLinked, Begins, HaveAllStealers, IsOwned, Linked, first_hand, other_numbers, stealer_numbers, stealers_on, ways_of_all}
 use Rattle.steal_pool.specs.Stealers.{Linking, Links, LinksOther, Opens, gained, lent, numbers_so_far}
 use Rattle.steal_pool.proofs.Listing.{all_each, zip_get, get_same, get_other, keep_each, one_some, weigh_none, within, map_push, map_set, map_at, map_from, set_length}
@@ -68,6 +68,8 @@ opened_begins ledger root k e s is o =
       table = o.2;
       terms = o.3;
       refusal = o.4;
+      rounds = o.5;
+      room = subst (λ (m : ℕ). first_room m ≤ s.room) number o.6;
     }
 
 pub opens_by : (ledger : SpanLedger) (root : Node) (e : LedgerSeat) (s : Seat) (hand : Option Node) (number : ℕ) → number ≡ (part e).number → hand ≡ first_hand root number
@@ -113,7 +115,7 @@ module _ (ledger : SpanLedger) (root : Node) (es : List LedgerSeat) (ss : List S
 
 -- ---- a stealer is made
 lent_begins : (ledger : SpanLedger) (k : ℕ) (held : Option Node) (s : Seat) → Begins ledger k held s → Begins ledger k held (lent s)
-lent_begins ledger k held s b = record { worker = b.worker; hand = b.hand; kept = b.kept; pushed_in_a_row = b.pushed_in_a_row; put = b.put; taken = b.taken; part = b.part; table = b.table; terms = b.terms; refusal = b.refusal }
+lent_begins ledger k held s b = record { worker = b.worker; hand = b.hand; kept = b.kept; pushed_in_a_row = b.pushed_in_a_row; put = b.put; taken = b.taken; part = b.part; table = b.table; terms = b.terms; refusal = b.refusal; rounds = b.rounds; room = b.room }
 
 all_taken : List End → List Node
 all_taken es = flat_map (λ (x : End). x.view.taken) es
@@ -142,6 +144,8 @@ gained_begins ledger k held s e none b = record {
   table = b.table;
   terms = b.terms;
   refusal = b.refusal;
+  rounds = b.rounds;
+  room = b.room;
 }
 
 module _ (ledger : SpanLedger) (root : Node) (n i j : ℕ) (ss qs : List Seat) (l : Linking ledger root n i j ss) (apart : i ≢ j) (x : Links i j ss qs) where

@@ -9,24 +9,26 @@ use Rattle.spec_pool.specs.declared.ledger.LedgerTerms.{LedgerTerms}
 use Rattle.spec_pool.specs.Accounts.{leaves_of}
 use Rattle.spec_pool.specs.History.{Fresh}
 use Rattle.spec_pool.proofs.Balancing.{by_leaves}
-use Rattle.spec_pool.proofs.Finding.{leaves_permuted}
+use Rattle.spec_pool.proofs.Finding.{leaves_permuted, nodes_permuted}
 use Rattle.spec_pool.proofs.Hands.{hand_weigh, weigh_hand}
 use Rattle.spec_pool.proofs.Weights.{weigh, weigh-append, weigh-flat, weigh-map, weigh-same, sum_is_weigh}
 use Rattle.span_ledger.specs.declared.desk.LedgerSeat.{LedgerSeat}
 use Rattle.span_ledger.specs.Seats.{part}
 use Rattle.steal_pool.specs.declared.seat.Stop.TheVariants.{Full, Memory}
 use Rattle.steal_pool.specs.Rule.{DequeId, End}
-use Rattle.steal_pool.specs.Seats.{IsFullOf, IsLeft, Seat, SeatLinks, entered_by, place_of, ways}
-use Rattle.steal_pool.specs.Pools.{AccountFor, AreLinked, ComeBack, IsLeftOver, IsRefused, KeepNone, NoneIsOutOfMemory, entered_in, own_of, stealers_on, right_of, seat_right, taken_of, ways_of_all}
+use Rattle.steal_pool.specs.Rounds.{Counts, tally}
+use Rattle.steal_pool.specs.Seats.{IsFullOf, IsLeft, Seat, SeatLinks, account, entered_by, place_of, ways}
+use Rattle.steal_pool.specs.Pools.{AccountFor, AreCounted, AreLinked, ComeBack, HasRoom, IsLeftOver, IsRefused, KeepNone, LeavesOver, NoneIsOutOfMemory, SomeIsOutOfMemory, entered_in, entered_of, put_of, own_of, stealers_on, right_of, seat_right, taken_of, ways_of_all}
 use Rattle.steal_pool.specs.Stealers.{HasNoStealer, Joined, lasting}
 use Rattle.steal_pool.specs.Closing.{Drains, Ended, HasUsedUp, Leaves, SomeIsFull, worst_stop}
 use Rattle.steal_pool.proofs.Rule.{left_permuted}
 use Rattle.steal_pool.proofs.Accounts.{entered_weigh, entered_weight, own_weight, same_weights, taken_weight}
 use Rattle.steal_pool.specs.Runs.{IsLater}
-use Rattle.steal_pool.proofs.Pooling.{later_same, same_linked}
-use Rattle.steal_pool.proofs.Together.{account_later, account_weighs, entered_sum, own_of_weigh, own_sum, put_sum, taken_of_weigh, taken_sum, weighs_account}
-use Rattle.steal_pool.proofs.Stopping.{full_stopped}
-use Rattle.steal_pool.proofs.Listing.{all_get, zip_all, zip_at, zip_map, map_all, map_at, map_from, weigh_none}
+use Rattle.steal_pool.proofs.Pooling.{later_same, same_linked, same_room}
+use Rattle.steal_pool.proofs.Together.{account_later, account_weighs, entered_of_weigh, entered_sum, own_of_weigh, own_sum, put_sum, taken_of_weigh, taken_sum, weighs_account}
+use Rattle.steal_pool.proofs.Counting.{later_counted, same_count}
+use Rattle.steal_pool.proofs.Stopping.{full_stopped, memory_stopped}
+use Rattle.steal_pool.proofs.Listing.{all_get, zip_all, zip_at, zip_map, map_all, map_at, map_length, map_from, weigh_none}
 
 map_twice : {A B C : Type 0} (f : A → B) (g : B → C) (xs : List A) → map (λ x. g (f x)) xs ≡ map g (map f xs)
 map_twice f g [] = refl
@@ -76,6 +78,32 @@ module _ (t : Rules) (ss us : List Seat) (j : Joined ss us) where
     taken_of_weigh (by_leaves t h) us,
   ))
 
+  joined_counted : AreCounted ss → AreCounted us
+  joined_counted a = record {
+    rounds = a.rounds;
+    tell = subst (λ (shown : List ℕ). AllZip (λ (n : ℕ) (r : ℕ). Counts n 0 r) a.rounds shown) (sym (lasting_map (λ (s : Seat). s.rounds))) a.tell;
+    sum = omega (
+      arith,
+      a.sum,
+      same_count (taken_of ss) (taken_of us) j.taken,
+      sum_is_weigh (λ (s : Seat). tally (account s)) ss,
+      sum_is_weigh (λ (s : Seat). tally (account s)) us,
+      lasting_weigh (λ (s : Seat). tally (account s)),
+    );
+  }
+
+joined_room : (ss us : List Seat) → map lasting us ≡ map lasting ss → HasRoom ss → HasRoom us
+joined_room [] [] e r = r
+joined_room [] (u ∷ us) e r = absurd cc
+joined_room (s ∷ ss) [] e r = absurd cc
+joined_room (s ∷ ss) (u ∷ us) e r = λ x at.
+    let first : lasting u ≡ lasting s = cc in
+    let is : u ≡ x = cc in
+    let same : u.room ≡ x.room = ap (λ (y : Seat). y.room) is in
+    let rooms : u.room ≡ s.room = ap (λ (y : Seat). y.room) first in
+    let count : length (u ∷ us) ≡ length (s ∷ ss) = map_length lasting (s ∷ ss) (u ∷ us) e in
+    omega (arith, r s refl, rooms, same, count)
+
 -- ---- each worked
 later_none : (t : Rules) (s q : Seat) → IsLater t s q → HasNoStealer s → HasNoStealer q
 later_none t s q c none =
@@ -99,6 +127,8 @@ ended t ss us qs j linked none w = record {
   free = λ all. joined_free t ss us j (free_before w.refusals all);
   memory = λ all. joined_memory t ss us j (memory_before w.refusals all);
   account = λ root a. account_later t root us qs w.changes (joined_account t ss us j root a);
+  counted = λ a. later_counted t us qs w.changes (joined_counted t ss us j a);
+  room = λ r. same_room us qs (later_same t us qs w.changes) (joined_room ss us j.lasting r);
 }
   where
     free_before : KeepNone us ⊎ (qs ≡ us) → KeepNone qs → KeepNone us
@@ -118,7 +148,7 @@ module _ (t : Rules) (ss qs : List Seat) (es : List LedgerSeat) (d : Ended t ss 
   pub come_back : ComeBack ss es
   come_back = zip_map Leaves right_of seat_right qs es (λ s e l. λ i. (l.table i, (l.part i).number)) b ∙ d.rights
 
-  entered_in_weigh : (h : Leaf → ℕ) → weigh h (entered_in es) ≡ entered_sum h qs
+  pub entered_in_weigh : (h : Leaf → ℕ) → weigh h (entered_in es) ≡ entered_sum h qs
   entered_in_weigh h = flat es ∙ same qs es b
     where
       flat : (fs : List LedgerSeat) → weigh h (entered_in fs) ≡ weigh (λ (e : LedgerSeat). entered_weight h (part e)) fs
@@ -136,13 +166,13 @@ module _ (t : Rules) (ss qs : List Seat) (es : List LedgerSeat) (d : Ended t ss 
       let f = map_from (λ (s : Seat). ways s.worker) qs k w at in
       sym (ap (λ (x : SeatLinks). x.others) f.2) ∙ ap (map place_of) (all_get HasNoStealer qs k f.0 d.none f.1)
 
-  none_made : (k : ℕ) (s : Seat) → slice_get qs k ≡ Some s → s.worker.own.view.made ≡ 0
+  pub none_made : (k : ℕ) (s : Seat) → slice_get qs k ≡ Some s → s.worker.own.view.made ≡ 0
   none_made k s at =
       d.linked.counted k (ways s.worker) (map_at (λ (x : Seat). ways x.worker) qs k s at)
       ∙ sum_is_weigh (stealers_on k) (ways_of_all qs)
       ∙ weigh_none (stealers_on k) (ways_of_all qs) (λ m v e. ap (sum_by (λ (stealer : ℕ × DequeId). if stealer.0 == k then 1 else 0)) (no_others m v e))
 
-  own_only : (h : Node → ℕ) (k : ℕ) (s : Seat) → slice_get qs k ≡ Some s → taken_weight h s.worker ≡ weigh h s.worker.own.view.taken
+  pub own_only : (h : Node → ℕ) (k : ℕ) (s : Seat) → slice_get qs k ≡ Some s → taken_weight h s.worker ≡ weigh h s.worker.own.view.taken
   own_only h k s at = omega (arith, ap (weigh (λ (e : End). weigh h e.view.taken)) (all_get HasNoStealer qs k s d.none at))
 
   -- what was put on a deque is what was taken from it and what is left there
@@ -160,7 +190,7 @@ sum_left (x ∷ xs) each =
     let more = sum_left xs (λ k s at. each (suc k) s at) in
     (one.0 ++ more.0, λ h. omega (arith, one.1 h, more.1 h, weigh-append h one.0 more.0))
 
-sum_used : (xs : List Seat) → ((k : ℕ) (s : Seat) → slice_get xs k ≡ Some s → (h : Node → ℕ) → weigh h s.worker.own.view.put ≡ taken_weight h s.worker) → (h : Node → ℕ) → put_sum h xs ≡ taken_sum h xs
+pub sum_used : (xs : List Seat) → ((k : ℕ) (s : Seat) → slice_get xs k ≡ Some s → (h : Node → ℕ) → weigh h s.worker.own.view.put ≡ taken_weight h s.worker) → (h : Node → ℕ) → put_sum h xs ≡ taken_sum h xs
 sum_used [] each h = refl
 sum_used (x ∷ xs) each h = omega (arith, each 0 x refl h, sum_used xs (λ k s at. each (suc k) s at) h)
 
@@ -246,3 +276,30 @@ some_refused t ss qs es leaf d b (k, q, at, f) =
       subst (λ (p : SeatHistory). s.0.terms.limit ≤ length p.seen) (sym e.2.part) (omega (arith, f.limit, ap (λ (x : LedgerTerms). x.limit) s.2)),
       subst (λ (p : SeatHistory). Fresh leaf p.seen) (sym e.2.part) f.fresh,
     )
+
+-- ---- a seat was out of memory
+pub leaves_over : (t : Rules) (ss qs : List Seat) (es : List LedgerSeat) → Ended t ss qs → AllZip Leaves qs es → (root : Node) → AccountFor t root ss → LeavesOver t root qs
+leaves_over t ss qs es d b root a =
+    let left = sum_left qs (deque_left t ss qs es d b) in record {
+      rest = left.0;
+      deques = nodes_permuted (put_of qs) (taken_of qs ++ left.0) (λ h. omega (
+        arith,
+        weigh-flat (λ (s : Seat). s.worker.own.view.put) h qs,
+        taken_of_weigh h qs,
+        left.1 h,
+        weigh-append h (taken_of qs) left.0,
+      ));
+      account = leaves_permuted (entered_of qs ++ leaves_of t (own_of qs ++ left.0)) (leaves t root) (λ h. omega (
+        arith,
+        account_weighs t root qs (d.account root a) h,
+        entered_of_weigh h qs,
+        weigh-append h (entered_of qs) (leaves_of t (own_of qs ++ left.0)),
+        weigh-flat (leaves t) h (own_of qs ++ left.0),
+        weigh-append (by_leaves t h) (own_of qs) left.0,
+        own_of_weigh t h qs,
+        left.1 (by_leaves t h),
+      ));
+    }
+
+pub some_out_of_memory : (qs : List Seat) → worst_stop qs ≡ Some Memory → SomeIsOutOfMemory qs
+some_out_of_memory qs e = memory_stopped qs e

@@ -1,5 +1,5 @@
 -- What entering a leaf, and putting a right part away, say of a seat's work, by what was answered.
-use Rattle.std.proofs.Common.{◌≡◌, ⊎_elim, inl, inr, ℕ, ◌+◌, ◌<◌, ◌≤◌, List, length, Some, None, refl, sym, ap, ◌∙◌, subst, arith, [], ◌∷◌, ◌++◌, IsPermutation}
+use Rattle.std.proofs.Common.{◌≡◌, ◌⊎◌, ⊎_elim, inl, inr, ℕ, ◌+◌, ◌<◌, ◌≤◌, List, length, Some, None, refl, sym, ap, ◌∙◌, subst, arith, [], ◌∷◌, ◌++◌, IsPermutation}
 use Rattle.std.proofs.lemmas.Bool.{cases_lt}
 use Rattle.std.proofs.lemmas.List.Sorted.{IsPermutation-refl}
 use Rattle.spec_trees.specs.declared.tree.Node.{Node}
@@ -18,8 +18,10 @@ use Rattle.steal_pool.specs.declared.worker.Pushed.TheVariants as P
 use Rattle.steal_pool.specs.Workers.{Holder, IsSplit, on_deque, on_stack, taken_by, with_hand}
 use Rattle.steal_pool.specs.declared.seat.Stop.{Stop}
 use Rattle.steal_pool.specs.declared.seat.Stop.TheVariants as S
+use Rattle.steal_pool.specs.Rounds.{Counts, rounds_in, rounds_of_push}
 use Rattle.steal_pool.specs.Seats.{IfFull, IsFullOf, IsLike, SameSeat, Seat, Works, account_of, entered_by, stop_at, ways, with_refusal}
-use Rattle.steal_pool.proofs.Accounts.{Worked, entered_weigh, entered_weight, enter_works, idle_works, split_works, works_more}
+use Rattle.steal_pool.proofs.Accounts.{entered_weigh, entered_weight}
+use Rattle.steal_pool.proofs.Acting.{Worked, WorksBy, enter_works, idle_works, split_works, works_more}
 use Rattle.steal_pool.proofs.Stopping.{some_stop}
 
 -- ---- why a seat stops
@@ -103,7 +105,7 @@ pub if_full : (stop : Stop) (P Q : Leaf → Type 0) → IfFull stop P → ((l : 
 if_full (S.Full l) P Q p f = f l p
 if_full S.Memory P Q p f = tt
 
-pub leaf_works : (t : Rules) (w v : Holder) (p q : SeatHistory) (leaf : Leaf) → IsSound t → IsLeaf t leaf → w.hand ≡ Some leaf.node → v ≡ with_hand w None → ((h : Leaf → ℕ) → entered_weight h q ≡ entered_weight h p + h leaf) → Worked t w p v q
+pub leaf_works : (t : Rules) (w v : Holder) (p q : SeatHistory) (leaf : Leaf) → IsSound t → IsLeaf t leaf → w.hand ≡ Some leaf.node → v ≡ with_hand w None → ((h : Leaf → ℕ) → entered_weight h q ≡ entered_weight h p + h leaf) → Worked t 1 w p v q
 leaf_works t w v p q leaf sound is hand e more = enter_works t w v p q leaf.node leaf.mark sound is.valid is.marked hand e more
 
 -- entering is the step of the model of the pool
@@ -121,17 +123,17 @@ leaf_enters t w v p q leaf is hand e more = (
   },
 )
 
-pub same_works : (t : Rules) (w : Holder) (p q : SeatHistory) → (q.mine ≡ p.mine) × (q.again ≡ p.again) → Worked t w p w q
+pub same_works : (t : Rules) (w : Holder) (p q : SeatHistory) → (q.mine ≡ p.mine) × (q.again ≡ p.again) → Worked t 0 w p w q
 same_works t w p q e = idle_works t w p w q refl refl refl refl e.0 e.1
 
 -- ---- putting a right part away
 pub push_works : (t : Rules) (w v : Holder) (p : SeatHistory) (left right : Node) → IsSound t → ((n : Node) → w.hand ≡ Some n → IsValid t n) → IsSplit t w left right
-    → (r : Pushed) → (r ≡ P.OnDeque → v ≡ on_deque w left right) → (r ≡ P.Kept → v ≡ on_stack w left right) → ((n : Node) → r ≡ P.Memory n → (n ≡ right) × (v ≡ w)) → Worked t w p v p
+    → (r : Pushed) → (r ≡ P.OnDeque → v ≡ on_deque w left right) → (r ≡ P.Kept → v ≡ on_stack w left right) → ((n : Node) → r ≡ P.Memory n → (n ≡ right) × (v ≡ w)) → Worked t (rounds_of_push r) w p v p
 push_works t w v p left right sound valid split P.OnDeque deque kept memory = split_works t w v p left right sound valid split (inl (deque refl))
 push_works t w v p left right sound valid split P.Kept deque kept memory = split_works t w v p left right sound valid split (inr (kept refl))
 push_works t w v p left right sound valid split (P.Memory n) deque kept memory =
     let e = (memory n refl).1 in
-    subst (λ (u : Holder). Worked t w p u p) (sym e) (same_works t w p p (refl, refl))
+    subst (λ (u : Holder). Worked t 0 w p u p) (sym e) (same_works t w p p (refl, refl))
 
 pub kept_when_full : (n : ℕ) (r : Pushed) → (n < 64 → r ≡ P.OnDeque) → r ≡ P.Kept → 64 ≤ n
 kept_when_full n r first kept = ⊎_elim (λ less. absurd (not_both (sym (first less) ∙ kept))) (λ full. full) (cases_lt n 64)
@@ -141,7 +143,7 @@ kept_when_full n r first kept = ⊎_elim (λ less. absurd (not_both (sym (first 
 
 -- ---- pieces of a seat's work
 pub same_more : (a b c : Seat) → SameSeat a b → SameSeat b c → SameSeat a c
-same_more a b c x y = record { ways = y.ways ∙ x.ways; table = y.table ∙ x.table; terms = y.terms ∙ x.terms; number = y.number ∙ x.number }
+same_more a b c x y = record { ways = y.ways ∙ x.ways; table = y.table ∙ x.table; terms = y.terms ∙ x.terms; number = y.number ∙ x.number; room = y.room ∙ x.room }
 
 pub same_refused : (a b c : Seat) (e : _) → SameSeat a b → c ≡ with_refusal b e → SameSeat a c
 same_refused a b c e x is = record {
@@ -149,13 +151,34 @@ same_refused a b c e x is = record {
   table = ap (λ (s : Seat). s.table) is ∙ x.table;
   terms = ap (λ (s : Seat). s.terms) is ∙ x.terms;
   number = ap (λ (s : Seat). s.part.number) is ∙ x.number;
+  room = ap (λ (s : Seat). s.room) is ∙ x.room;
 }
 
+-- a counter that stays, and one that goes on
+pub counts_none : (a : ℕ) → Counts 0 a a
+counts_none a = record { most = omega arith; least = inl (omega arith) }
+
+pub counts_more : (m n a b c : ℕ) → Counts m a b → Counts n b c → Counts (m + n) a c
+counts_more m n a b c x y = record { most = omega (arith, x.most, y.most); least = by x.least y.least }
+  where
+    by : (a + m ≤ b) ⊎ (18446744073709551615 ≤ b) → (b + n ≤ c) ⊎ (18446744073709551615 ≤ c) → (a + (m + n) ≤ c) ⊎ (18446744073709551615 ≤ c)
+    by u (inr full) = inr full
+    by (inl f) (inl g) = inl (omega (arith, f, g))
+    by (inr full) (inl g) = inr (omega (arith, full, g))
+
+-- a piece of work of so many rounds, and a counter that tells them
+pub counted_works : (t : Rules) (n : ℕ) (w : Holder) (p : SeatHistory) (a : ℕ) (v : Holder) (q : SeatHistory) (b : ℕ) → Worked t n w p v q → Counts n a b → WorksBy t w p a v q b
+counted_works t n w p a v q b (weighs, (acts, ((acted, taken), is))) counts =
+    (weighs, (acts, (acted, taken, subst (λ (k : ℕ). Counts k a b) (sym is) counts)))
+
 pub seat_idle : (t : Rules) (s : Seat) → Works t s s
-seat_idle t s = same_works t s.worker s.part s.part (refl, refl)
+seat_idle t s = counted_works t 0 s.worker s.part s.rounds s.worker s.part s.rounds (same_works t s.worker s.part s.part (refl, refl)) (counts_none s.rounds)
 
 pub seat_more : (t : Rules) (a b c : Seat) → Works t a b → Works t b c → Works t a c
-seat_more t a b c x y = works_more t a.worker a.part b.worker b.part c.worker c.part x y
+seat_more t a b c (x, (xs, (f, d, m))) (y, (ys, (g, e, n))) =
+    counted_works t (rounds_in xs + rounds_in ys) a.worker a.part a.rounds c.worker c.part c.rounds
+    (works_more t (rounds_in xs) (rounds_in ys) a.worker a.part b.worker b.part c.worker c.part (x, (xs, ((f, d), refl))) (y, (ys, ((g, e), refl))))
+    (counts_more (rounds_in xs) (rounds_in ys) a.rounds b.rounds c.rounds m n)
 
 pub seat_refused : (t : Rules) (a b c d : Seat) (e : _) → Works t a b → Works t b c → d ≡ with_refusal c e → Works t a d
 seat_refused t a b c d e x y is = subst (λ (s : Seat). Works t a s) (sym is) (seat_more t a b c x y)

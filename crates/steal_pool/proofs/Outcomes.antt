@@ -1,18 +1,19 @@
 -- What the end of a pool's work comes to, by the worst of why its seats stopped.
-use Rattle.std.proofs.Common.{◌≡◌, List, Option, Some, None, Result, Ok, Err, IfOk, IfErr, IsPermutation, sym, subst, ◌∙◌}
+use Rattle.std.proofs.Common.{◌≡◌, ◌+◌, ◌*◌, List, Option, Some, None, Result, Ok, Err, IfOk, IfErr, IsPermutation, sym, subst, ◌∙◌}
 use Rattle.std.specs.List.{AllZip}
 use Rattle.spec_trees.specs.declared.tree.Node.{Node}
 use Rattle.spec_trees.specs.declared.tree.Leaf.{Leaf}
-use Rattle.spec_trees.specs.Tree.{Rules, leaves}
+use Rattle.spec_trees.specs.Tree.{IsSound, IsValid, Rules, leaf_count, leaves}
 use Rattle.span_ledger.specs.declared.desk.LedgerSeat.{LedgerSeat}
 use Rattle.steal_pool.specs.declared.finishing.FinishError.{FinishError}
 use Rattle.steal_pool.specs.declared.finishing.FinishError.TheVariants.{TooMany, Memory}
 use Rattle.steal_pool.specs.declared.seat.Stop.{Stop}
-use Rattle.steal_pool.specs.declared.seat.Stop.TheVariants.{Full}
+use Rattle.steal_pool.specs.declared.seat.Stop.TheVariants.{Full, Memory as OutOfMemory}
 use Rattle.steal_pool.specs.Seats.{Seat}
-use Rattle.steal_pool.specs.Pools.{AccountFor, ComeBack, IfTooMany, IsLeftOver, IsRefused, KeepNone, NoneIsOutOfMemory, entered_in}
+use Rattle.steal_pool.specs.Pools.{AccountFor, AreCounted, ComeBack, IfTooMany, IsLeftOver, IsRefused, KeepNone, LeavesOver, NoneIsOutOfMemory, SomeIsOutOfMemory, entered_in, rounds_of}
 use Rattle.steal_pool.specs.Closing.{Ended, Leaves, SomeIsFull, worst_stop}
-use Rattle.steal_pool.proofs.Ending.{all_entered, come_back, some_left_over, some_refused, worst_is_full}
+use Rattle.steal_pool.proofs.Ending.{all_entered, come_back, leaves_over, some_left_over, some_out_of_memory, some_refused, worst_is_full}
+use Rattle.steal_pool.proofs.RoundsEnd.{rounds_at_end}
 use Rattle.steal_pool.proofs.Stopping.{none_stopped}
 
 pub if_ok : {A E : Type 0} (r : Result A E) (P Q : A → Type 0) → IfOk r P → ((x : A) → P x → Q x) → IfOk r Q
@@ -37,11 +38,20 @@ module _ (t : Rules) (ss qs : List Seat) (es : List LedgerSeat) (worst : Option 
   pub all_back : (vs : List LedgerSeat) → vs ≡ es → worst ≡ None → (root : Node) → AccountFor t root ss → IsPermutation (entered_in vs) (leaves t root)
   all_back vs is e root a = subst (λ (xs : List LedgerSeat). IsPermutation (entered_in xs) (leaves t root)) (sym is) (all_entered t ss qs es d b (none e) root a)
 
+  pub rounds : worst ≡ None → (root : Node) → IsSound t → IsValid t root → AccountFor t root ss → AreCounted ss → (ended : List Seat) × Ended t ss ended × KeepNone ended × (rounds_of ended + 1 ≡ 2 * leaf_count t root)
+  rounds e root sound valid account counted = (qs, d, none e, rounds_at_end t ss qs es d b (none e) root sound valid account counted)
+
+  pub out_of_memory : worst ≡ Some OutOfMemory → (ended : List Seat) × Ended t ss ended × SomeIsOutOfMemory ended × ((root : Node) → AccountFor t root ss → LeavesOver t root ended)
+  out_of_memory e = (qs, d, some_out_of_memory qs (sym w ∙ e), (λ root a. leaves_over t ss qs es d b root a))
+
   full : (leaf : Leaf) → worst ≡ Some (Full leaf) → NoneIsOutOfMemory qs × SomeIsFull t leaf qs
   full leaf e = worst_is_full t qs leaf d.left (sym w ∙ e)
 
   pub memory : (leaf : Leaf) → worst ≡ Some (Full leaf) → NoneIsOutOfMemory ss
   memory leaf e = d.memory (full leaf e).0
+
+  pub worst_is : (leaf : Leaf) → worst ≡ Some (Full leaf) → (ended : List Seat) × Ended t ss ended × NoneIsOutOfMemory ended × SomeIsFull t leaf ended
+  worst_is leaf e = (qs, d, (full leaf e).0, (full leaf e).1)
 
   pub refused : (vs : List LedgerSeat) (leaf : Leaf) → vs ≡ es → worst ≡ Some (Full leaf) → IsRefused ss vs leaf
   refused vs leaf is e = subst (λ (xs : List LedgerSeat). IsRefused ss xs leaf) (sym is) (some_refused t ss qs es leaf d b (full leaf e).1)

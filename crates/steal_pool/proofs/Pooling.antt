@@ -1,16 +1,18 @@
 -- Seats that work are the same seats afterwards, one by one and all together.
-use Rattle.std.proofs.Common.{◌≡◌, ℕ, suc, ◌<◌, List, [], ◌∷◌, length, slice_set, get_or, refl, sym, subst, arith}
+use Rattle.std.proofs.Common.{◌≡◌, ℕ, suc, ◌<◌, List, [], ◌∷◌, length, slice_set, get_or, refl, sym, ap, subst, arith}
 use Rattle.std.specs.List.{AllByRecursion, AllZip}
-use Rattle.steal_pool.specs.Seats.{IsLeft, SameSeat, Seat, Works, ways}
+use Rattle.span_ledger.specs.declared.desk.LedgerSeat.{LedgerSeat}
+use Rattle.steal_pool.specs.Seats.{IsLeft, SameSeat, Seat, Works, ways, with_room}
 use Rattle.spec_trees.specs.Tree.{Rules}
-use Rattle.steal_pool.specs.Pools.{AreLinked, Linked}
+use Rattle.steal_pool.specs.Pools.{AreLinked, HasRoom, Linked}
+use Rattle.steal_pool.specs.Closing.{IsRoomless, Leaves}
 use Rattle.steal_pool.specs.Runs.{HasWorked, IsLater}
 use Rattle.steal_pool.proofs.Entering.{same_more, seat_idle, seat_more}
-use Rattle.steal_pool.proofs.Listing.{zip_map, zip_self}
+use Rattle.steal_pool.proofs.Listing.{zip_length, zip_map, zip_self}
 
 -- ---- one seat
 pub same_self : (s : Seat) → SameSeat s s
-same_self s = record { ways = refl; table = refl; terms = refl; number = refl }
+same_self s = record { ways = refl; table = refl; terms = refl; number = refl; room = refl }
 
 pub is_idle : (t : Rules) (s : Seat) → IsLater t s s
 is_idle t s = record { works = seat_idle t s; same = same_self s }
@@ -54,6 +56,33 @@ later_same t [] (q ∷ qs) b = absurd b
 later_same t (s ∷ ss) [] b = absurd b
 later_same t (s ∷ ss) (q ∷ qs) b = (b.0.same, later_same t ss qs b.1)
 
+pub same_room : (ss qs : List Seat) → AllZip SameSeat ss qs → HasRoom ss → HasRoom qs
+same_room [] [] b r = r
+same_room [] (q ∷ qs) b r = absurd b
+same_room (s ∷ ss) [] b r = absurd b
+same_room (s ∷ ss) (q ∷ qs) b r = λ x at.
+    let is : q ≡ x = cc in
+    let same : q.room ≡ x.room = ap (λ (y : Seat). y.room) is in
+    omega (arith, r s refl, b.0.room, same, zip_length SameSeat ss qs b.1)
+
 pub same_linked : (ss qs : List Seat) → AllZip SameSeat ss qs → AreLinked ss → AreLinked qs
 same_linked ss qs b l =
     subst Linked (sym (zip_map SameSeat (λ (s : Seat). ways s.worker) (λ (s : Seat). ways s.worker) ss qs (λ s q c. c.ways) b)) l
+
+-- ---- the room of the first
+pub all_roomless : (ss : List Seat) → AllZip IsRoomless ss ss
+all_roomless ss = zip_self IsRoomless ss (λ s. refl)
+
+pub first_roomless : (ss : List Seat) (d s' : Seat) → s' ≡ with_room (get_or ss 0 d) s'.room → AllZip IsRoomless ss (slice_set ss 0 s')
+first_roomless [] d s' e = tt
+first_roomless (x ∷ xs) d s' e = (e, all_roomless xs)
+
+leaves_as : (s q : Seat) (e : LedgerSeat) → IsRoomless s q → Leaves q e → Leaves s e
+leaves_as s q e is l = let m : Leaves (with_room s q.room) e = subst (λ (x : Seat). Leaves x e) is l in record { part = m.part; table = m.table; left = m.left }
+
+pub leave_as : (ss qs : List Seat) (es : List LedgerSeat) → AllZip IsRoomless ss qs → AllZip Leaves qs es → AllZip Leaves ss es
+leave_as [] [] es z b = b
+leave_as [] (q ∷ qs) es z b = absurd z
+leave_as (s ∷ ss) [] es z b = absurd z
+leave_as (s ∷ ss) (q ∷ qs) [] z b = absurd b
+leave_as (s ∷ ss) (q ∷ qs) (e ∷ es) z b = (leaves_as s q e z.0 b.0, leave_as ss qs es z.1 b.1)

@@ -1,5 +1,5 @@
 -- What the seats of a run are, from their making to their coming back, and what a run answers.
-use Rattle.std.proofs.Common.{◌≡◌, ℕ, zero, suc, ◌+◌, ◌<◌, ◌++◌, List, [], ◌∷◌, map, flat_map, length, Option, Some, None, Result, Ok, Err, Vec, IfOk, IfErr, slice_get, IsPermutation, refl, sym, ap, ◌∙◌, subst, arith}
+use Rattle.std.proofs.Common.{◌≡◌, ℕ, zero, suc, ◌+◌, ◌<◌, ◌++◌, List, [], ◌∷◌, map, flat_map, length, Option, Some, None, Result, Ok, Err, Vec, IfOk, IfErr, IsOk, slice_get, IsPermutation, refl, sym, ap, ◌∙◌, subst, arith}
 use Rattle.std.proofs.lemmas.List.Elements.{recursion_from_All}
 use Rattle.std.specs.List.{AllByRecursion, AllZip}
 use mathlib.Core.Option as M
@@ -25,6 +25,7 @@ use Rattle.steal_pool.specs.declared.finishing.FinishError.TheVariants.{TooMany,
 use Rattle.steal_pool.specs.declared.seat.PoolError.{PoolError}
 use Rattle.steal_pool.specs.Pools.{AllBegin, Begins, ComeBack, IfTooMany, IsLeftOver, IsRefused, entered_in}
 use Rattle.steal_pool.specs.Runs.{AreAll, AreFree, AreSeatsOf, EnteredOnce, HaveEntered, IsOverfull, IsSeatAt}
+use Rattle.steal_pool.specs.Histories.{IsTooMany}
 use Rattle.steal_pool.proofs.Listing.{all_each, zip_get}
 use Rattle.steal_pool.proofs.Booking.{Fit, Numbered, book_in_order, book_once, more_than, parts_entered}
 
@@ -187,3 +188,14 @@ count_named t r root terms limit e is more = omega (arith, is, more, ap length (
 pub cover_ok : (r : Rules) (root : Node) → IsSound r → IsValid r root → (x : Result Book PoolError) → IfOk x (λ b. ordered_leaves b.entries.items ≡ leaves r root) → IfOk x (λ b. CoverRoot root b.entries.items)
 cover_ok r root s v (Ok b) is = subst (λ (ls : List Leaf). Covers root.a ls root.b) (sym is) (leaves_cover r s root v)
 cover_ok r root s v (Err x) is = tt
+
+-- ---- what the history of a run is, by its answer
+pub when_ended : (P : Type 0) (x : Result Book PoolError) (r : Result (Vec LedgerSeat Global) FinishError) → IfOk x (λ b. IsOk r) → IfOk r (λ v. P) → IfOk x (λ b. P)
+when_ended P (Ok b) (Ok v) o p = p
+when_ended P (Ok b) (Err e) o p = absurd cc
+when_ended P (Err y) r o p = tt
+
+pub when_full : (P : Type 0) (r : Result (Vec LedgerSeat Global) FinishError) → IsTooMany r → IfErr r (λ e. IfTooMany e (λ es leaf. P)) → P
+when_full P (Ok v) o p = absurd o
+when_full P (Err (TooMany es leaf)) o p = p
+when_full P (Err Memory) o p = absurd o

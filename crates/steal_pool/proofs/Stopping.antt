@@ -9,7 +9,7 @@ use Rattle.steal_pool.specs.declared.seat.PoolError.TheVariants as E
 use Rattle.steal_pool.specs.declared.seat.Stop.{Stop}
 use Rattle.steal_pool.specs.declared.seat.Stop.TheVariants.{Full, Memory}
 use Rattle.steal_pool.specs.Seats.{IfFull, IsFull, IsFullOf, IsLeft, IsStoppedBy, Seat, error_of, with_refusal}
-use Rattle.steal_pool.specs.Pools.{KeepNone, NoneIsOutOfMemory}
+use Rattle.steal_pool.specs.Pools.{KeepNone, NoneIsOutOfMemory, SomeIsOutOfMemory}
 use Rattle.steal_pool.specs.Closing.{worse, worst_from, worst_stop}
 
 -- ---- of two
@@ -142,3 +142,33 @@ module _ (t : Rules) (s q : Seat) (stop : Stop) (is : q ≡ with_refusal s (Some
   too_many_is_full e f g =
       let l = too_many_full stop (sym f ∙ g) in
       subst (IsFull t) (sym is) (l.0, ap Some l.1, still_full l.0 l.1)
+
+-- ---- the worst is that memory ran out
+one_memory : (r q : Option Stop) → worse r q ≡ Some Memory → (r ≡ Some Memory) ⊎ (q ≡ Some Memory)
+one_memory None q e = inr e
+one_memory (Some Memory) q e = inl refl
+one_memory (Some (Full leaf)) None e = absurd (not_memory leaf e)
+one_memory (Some (Full leaf)) (Some Memory) e = inr refl
+one_memory (Some (Full leaf)) (Some (Full other)) e = absurd (not_memory leaf e)
+
+abbrev HasMemory : Option Stop → List Seat → Type 0
+HasMemory r ss = (r ≡ Some Memory) ⊎ SomeIsOutOfMemory ss
+
+memory_first : (r : Option Stop) (s : Seat) (ss : List Seat) → (r ≡ Some Memory) ⊎ (s.refusal ≡ Some Memory) → HasMemory r (s ∷ ss)
+memory_first r s ss (inl x) = inl x
+memory_first r s ss (inr x) = inr (0, s, refl, x)
+
+memory_more : (r : Option Stop) (s : Seat) (ss : List Seat) → HasMemory (worse r s.refusal) ss → HasMemory r (s ∷ ss)
+memory_more r s ss (inl here) = memory_first r s ss (one_memory r s.refusal here)
+memory_more r s ss (inr (k, q, at, is)) = inr (suc k, q, at, is)
+
+memory_from : (r : Option Stop) (ss : List Seat) → worst_from r ss ≡ Some Memory → HasMemory r ss
+memory_from r [] e = inl e
+memory_from r (s ∷ ss) e = memory_more r s ss (memory_from (worse r s.refusal) ss e)
+
+memory_of_seat : (ss : List Seat) → HasMemory None ss → SomeIsOutOfMemory ss
+memory_of_seat ss (inl x) = absurd cc
+memory_of_seat ss (inr x) = x
+
+pub memory_stopped : (ss : List Seat) → worst_stop ss ≡ Some Memory → SomeIsOutOfMemory ss
+memory_stopped ss e = memory_of_seat ss (memory_from None ss e)

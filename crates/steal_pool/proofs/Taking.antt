@@ -6,7 +6,8 @@ use Rattle.spec_pool.specs.declared.ledger.SeatHistory.{SeatHistory}
 use Rattle.spec_pool.specs.Accounts.{Account}
 use Rattle.steal_pool.specs.Workers.{Holder, Takes, TakesInOrder, IsReopened, FindsNone}
 use Rattle.steal_pool.specs.Seats.{IsLike, account_of, Gets, ways}
-use Rattle.steal_pool.proofs.Accounts.{Worked, gets, none_works, takes_ways, takes_works}
+use Rattle.steal_pool.proofs.Accounts.{gets, takes_ways}
+use Rattle.steal_pool.proofs.Acting.{Worked, none_works, takes_works}
 
 abbrev pub Taken : Option Node → Holder → Holder → Type 0
 Taken r w v = MatchOption r (FindsNone w v) (λ n. Takes n w v)
@@ -15,7 +16,7 @@ pub taken_gets : (r : Option Node) (w v : Holder) (p : SeatHistory) → w.hand �
 taken_gets None w v p none t = tt
 taken_gets (Some n) w v p none t = gets n w v p none t
 
-pub taken_works : (t : Rules) (r : Option Node) (w v : Holder) (p : SeatHistory) → w.hand ≡ None → Taken r w v → Worked t w p v p
+pub taken_works : (t : Rules) (r : Option Node) (w v : Holder) (p : SeatHistory) → w.hand ≡ None → Taken r w v → Worked t 0 w p v p
 taken_works t None w v p none f = none_works t w v p f
 taken_works t (Some n) w v p none f = takes_works t n w v p none f
 

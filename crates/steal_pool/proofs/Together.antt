@@ -79,10 +79,10 @@ module _ (t : Rules) (root : Node) (ss : List Seat) where
   weighs_account e = leaves_permuted had came (λ h. omega (arith, e h, had_weigh h, came_weigh h))
 
 -- ---- at the beginning
-hand_of_first : (k : ℕ) (root : Node) → k ≡ 0 → first_hand root k ≡ Some root
+pub hand_of_first : (k : ℕ) (root : Node) → k ≡ 0 → first_hand root k ≡ Some root
 hand_of_first k root e = grind (arith, nat_tests, e)
 
-hand_of_other : (k : ℕ) (root : Node) → 0 < k → first_hand root k ≡ None
+pub hand_of_other : (k : ℕ) (root : Node) → 0 < k → first_hand root k ≡ None
 hand_of_other k root e = grind (arith, nat_tests, e)
 
 begin_own : (t : Rules) (h : Leaf → ℕ) (ledger : SpanLedger) (root : Node) (k : ℕ) (s : Seat) → Begins ledger k (first_hand root k) s → 0 < k → own_weight t h s.worker ≡ 0
@@ -110,7 +110,7 @@ begin_account t ledger root (s ∷ ss) some all = weighs_account t root (s ∷ s
 works_sums : (t : Rules) (s q : Seat) → Works t s q → (h : Leaf → ℕ)
     → entered_weight h q.part + own_weight t h q.worker + weigh (by_leaves t h) q.worker.own.view.put + taken_weight (by_leaves t h) s.worker
     ≡ entered_weight h s.part + own_weight t h s.worker + weigh (by_leaves t h) s.worker.own.view.put + taken_weight (by_leaves t h) q.worker
-works_sums t s q w h = let d = does t s.worker s.part q.worker q.part w in omega (
+works_sums t s q w h = let d = does t s.worker s.part q.worker q.part w.0 in omega (
   arith,
   ap (weigh (by_leaves t h)) d.3.0,
   weigh-append (by_leaves t h) s.worker.own.view.put d.0,

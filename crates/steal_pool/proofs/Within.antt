@@ -33,5 +33,13 @@ module _ (t r : Rules) (root : Node) (e : t ≡ rules_within r root) (v : IsVali
   pub named_sound : IsSound r → IsSound t
   named_sound s = subst IsSound (sym e) (within_sound r root s v)
 
+  pub named_valid : IsValid t root
+  named_valid = subst (λ (x : Rules). IsValid x root) (sym e) (record {
+    from = omega (arith, ints);
+    inside = v.inside;
+    to = omega (arith, ints);
+    depth = v.depth;
+  })
+
   pub named_parts : (n : Node) (both : Node × Node) → both ≡ r.parts n → t.parts n ≡ both
   named_parts n both is = ap (λ (x : Rules). x.parts n) e ∙ sym is

@@ -9,8 +9,8 @@ use Rattle.span_ledger.specs.Seats.{part, seat_table}
 use Rattle.steal_pool.specs.declared.seat.Stop.{Stop}
 use Rattle.steal_pool.specs.declared.seat.Stop.TheVariants.{Full, Memory}
 use Rattle.steal_pool.specs.Rule.{HasLeft, IsUsedUp}
-use Rattle.steal_pool.specs.Seats.{IsFullOf, IsLeft, Seat}
-use Rattle.steal_pool.specs.Pools.{AccountFor, AreLinked, KeepNone, NoneIsOutOfMemory, right_of}
+use Rattle.steal_pool.specs.Seats.{IsFullOf, IsLeft, Seat, with_room}
+use Rattle.steal_pool.specs.Pools.{AccountFor, AreCounted, AreLinked, HasRoom, KeepNone, NoneIsOutOfMemory, right_of}
 use Rattle.steal_pool.specs.Stealers.{HasNoStealer}
 use Rattle.steal_pool.specs.Runs.{IsLater}
 
@@ -20,7 +20,7 @@ HasUsedUp s = IsUsedUp s.worker.own.view
 abbrev pub AllUsedUp : List Seat → Type 0
 AllUsedUp ss = AllByRecursion HasUsedUp ss
 
--- where none keeps a refusal, each worked off its own deque; else they worked so far
+-- if none keeps a refusal, each worked off its own deque; else they worked so far
 pub record Drains (t : Rules) (ss qs : List Seat) : Type 0 where
   pub changes : AllZip (IsLater t) ss qs
   pub left : AllByRecursion (IsLeft t) qs
@@ -38,6 +38,8 @@ pub record Ended (t : Rules) (ss qs : List Seat) : Type 0 where
   pub free : KeepNone qs → KeepNone ss
   pub memory : NoneIsOutOfMemory qs → NoneIsOutOfMemory ss
   pub account : (root : Node) → AccountFor t root ss → AccountFor t root qs
+  pub counted : AreCounted ss → AreCounted qs
+  pub room : HasRoom ss → HasRoom qs
 
 -- the worse of two stops: memory ran out, or else the first leaf for which the ledger was full
 abbrev pub worse : Option Stop → Option Stop → Option Stop
@@ -55,6 +57,10 @@ worst_stop ss = worst_from None ss
 
 abbrev pub SomeIsFull : Rules → Leaf → List Seat → Type 0
 SomeIsFull t leaf ss = (k : ℕ) × (s : Seat) × (slice_get ss k ≡ Some s) × IsFullOf t leaf s
+
+-- the same seat with some other room
+abbrev pub IsRoomless : Seat → Seat → Type 0
+IsRoomless s q = q ≡ with_room s q.room
 
 -- a seat leaves, and this is its right to enter leaves
 pub record Leaves (s : Seat) (e : LedgerSeat) : Type 0 where

@@ -1,7 +1,7 @@
 -- The seats of one pool: how their stealers belong together, what they have and enter together, how they begin, and what
 -- comes back of them.
-use Rattle.std.specs.Prelude.{◌≡◌, ◌≢◌, ◌≤◌, ℕ, zero, suc, ◌==◌, List, [], ◌∷◌, ◌++◌, length, map, flat_map, sum_by, Option, Some, None, ⊤, if◌then◌else◌, slice_get, IsPermutation}
-use Rattle.std.specs.List.{AllByRecursion}
+use Rattle.std.specs.Prelude.{◌≡◌, ◌≢◌, ◌≤◌, ℕ, ◌+◌, zero, suc, ◌==◌, List, [], ◌∷◌, ◌++◌, length, map, flat_map, sum_by, Option, Some, None, ⊤, if◌then◌else◌, slice_get, IsPermutation}
+use Rattle.std.specs.List.{AllByRecursion, AllZip}
 use Rattle.atomic_table.specs.Seated.{TableId}
 use Rattle.spec_trees.specs.declared.tree.Node.{Node}
 use Rattle.spec_trees.specs.declared.tree.Leaf.{Leaf}
@@ -15,8 +15,9 @@ use Rattle.steal_pool.specs.declared.finishing.FinishError.{FinishError}
 use Rattle.steal_pool.specs.declared.finishing.FinishError.TheVariants.{TooMany, Memory}
 use Rattle.steal_pool.specs.declared.seat.Stop.TheVariants.{Memory as OutOfMemory}
 use Rattle.steal_pool.specs.Rule.{DequeId}
+use Rattle.steal_pool.specs.Rounds.{Counts, tally}
 use Rattle.steal_pool.specs.Workers.{taken_by}
-use Rattle.steal_pool.specs.Seats.{IsNamed, Seat, SeatLinks, account, entered_by, ways}
+use Rattle.steal_pool.specs.Seats.{IsNamed, Seat, SeatLinks, account, entered_by, first_room, ways}
 
 -- ---- the stealers
 abbrev pub ways_of_all : List Seat → List SeatLinks
@@ -72,6 +73,21 @@ abbrev pub AccountFor : Rules → Node → List Seat → Type 0
 AccountFor t root ss =
     IsPermutation (entered_of ss ++ leaves_of t (own_of ss ++ put_of ss)) (leaves t root ++ leaves_of t (taken_of ss))
 
+-- ---- the rounds that they made
+-- what their counters show, and all of it together
+abbrev pub counters : List Seat → List ℕ
+counters ss = map (λ s. s.rounds) ss
+
+abbrev pub rounds_of : List Seat → ℕ
+rounds_of ss = sum_by (λ n. n) (counters ss)
+
+-- These are the rounds of the seats, and the counter of each tells its own. With the root, and with the nodes that were
+-- taken from deques, they are as many as the tallies of all.
+pub record AreCounted (ss : List Seat) : Type 0 where
+  pub rounds : List ℕ
+  pub tell : AllZip (λ n shown. Counts n 0 shown) rounds (counters ss)
+  pub sum : sum_by (λ n. n) rounds + 1 + length (taken_of ss) ≡ sum_by (λ s. tally (account s)) ss
+
 -- ---- how they begin
 -- what has to be true where seats are made of a ledger's: t names the nodes of the root by the judge's rules r, it is the
 -- ledger's root, and these are all 1 to 64 seats of the ledger, which have entered nothing
@@ -86,7 +102,7 @@ pub record CanMake (t r : Rules) (ledger : SpanLedger) (es : List LedgerSeat) (r
 abbrev pub first_hand : Node → ℕ → Option Node
 first_hand root k = if k == 0 then Some root else None
 
--- a seat of the ledger that has the number k and this in its hand, and has put, taken and entered nothing
+-- a seat of the ledger that has the number k and this in its hand, has put, taken and entered nothing, and counts from 0
 pub record Begins (ledger : SpanLedger) (k : ℕ) (node : Option Node) (s : Seat) : Type 0 where
   pub worker : s.worker.own.worker ≡ k
   pub hand : s.worker.hand ≡ node
@@ -98,12 +114,25 @@ pub record Begins (ledger : SpanLedger) (k : ℕ) (node : Option Node) (s : Seat
   pub table : s.table ≡ table_of ledger
   pub terms : s.terms ≡ terms ledger
   pub refusal : s.refusal ≡ None
+  pub rounds : s.rounds ≡ 0
+  pub room : first_room k ≤ s.room
 
 -- each seat has its place as its number; the root is in the hand of the first, and all else is empty
 abbrev pub AllBegin : SpanLedger → Node → List Seat → Type 0
 AllBegin ledger root ss = (k : ℕ) (s : Seat) → slice_get ss k ≡ Some s → Begins ledger k (first_hand root k) s
 
 -- ---- what comes back
+-- the first of them has room for the ledger seats of all
+abbrev pub HasRoom : List Seat → Type 0
+HasRoom ss = (s : Seat) → slice_get ss 0 ≡ Some s → length ss ≤ s.room
+
+-- what is left to do by them: `rest` is still on the deques, and the leaves of what they hold and of that are those of the
+-- root's that are not entered, as multisets
+pub record LeavesOver (t : Rules) (root : Node) (ss : List Seat) : Type 0 where
+  pub rest : List Node
+  pub deques : IsPermutation (put_of ss) (taken_of ss ++ rest)
+  pub account : IsPermutation (entered_of ss ++ leaves_of t (own_of ss ++ rest)) (leaves t root)
+
 -- of which ledger's table, and under which number
 abbrev pub right_of : Seat → TableId × ℕ
 right_of s = (s.table, s.part.number)
@@ -138,3 +167,6 @@ KeepNone ss = AllByRecursion (λ s. s.refusal ≡ None) ss
 
 abbrev pub NoneIsOutOfMemory : List Seat → Type 0
 NoneIsOutOfMemory ss = AllByRecursion (λ s. s.refusal ≢ Some OutOfMemory) ss
+
+abbrev pub SomeIsOutOfMemory : List Seat → Type 0
+SomeIsOutOfMemory ss = (k : ℕ) × (s : Seat) × (slice_get ss k ≡ Some s) × (s.refusal ≡ Some OutOfMemory)

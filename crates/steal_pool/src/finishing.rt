@@ -1,13 +1,13 @@
 // The end of a pool: all stealers are joined, what is left on the deques is done, and the ledger's seats come back.
-ghost use Rattle.std.specs.Prelude.{◌≡◌, Some, None, Err, IfOk, IfErr, IsTrue, IsFalse, IsPermutation};
+ghost use Rattle.std.specs.Prelude.{◌≡◌, ◌≤◌, ◌+◌, ◌*◌, List, [], Some, None, Err, IfOk, IfErr, IsOk, IsTrue, IsFalse, IsPermutation, length, vec_capacity};
 ghost use Rattle.std.specs.List.{AllByRecursion, AllZip};
 ghost use Rattle.spec_trees.specs.declared.tree.Node.{Node};
-ghost use Rattle.spec_trees.specs.Tree.{leaves};
-ghost use Rattle.steal_pool.specs.Seats.{IsLeft};
-ghost use Rattle.steal_pool.specs.Closing.{Drains, Ended, Leaves, worse, worst_stop};
+ghost use Rattle.spec_trees.specs.Tree.{IsSound, IsValid, leaf_count, leaves};
+ghost use Rattle.steal_pool.specs.Seats.{IsLeft, Seat, with_room};
+ghost use Rattle.steal_pool.specs.Closing.{Drains, Ended, IsRoomless, Leaves, SomeIsFull, worse, worst_stop};
 ghost use Rattle.steal_pool.specs.declared.seat.Stop.TheVariants.{Full, Memory as OutOfMemory};
 ghost use Rattle.steal_pool.specs.declared.finishing.FinishError.TheVariants.{Memory as NoMemory};
-ghost use Rattle.steal_pool.specs.Pools.{AccountFor, AreLinked, ComeBack, IfTooMany, IsLeftOver, IsRefused, KeepNone, NoneIsOutOfMemory, entered_in};
+ghost use Rattle.steal_pool.specs.Pools.{AccountFor, AreCounted, AreLinked, ComeBack, HasRoom, IfTooMany, IsLeftOver, IsRefused, KeepNone, LeavesOver, NoneIsOutOfMemory, SomeIsOutOfMemory, entered_in, rounds_of};
 
 use crate::adding::add_item;
 use crate::joining::join_all_stealers;
@@ -19,6 +19,7 @@ use span_ledger::LedgerSeat;
 use spec_pool::Memory;
 use spec_trees::Leaf;
 use std::alloc::Global;
+use std::mem;
 use std::sync::Wait;
 
 /// Why a pool was not ended: the ledger was full when `leaf`, a leaf of the root, was to be entered, and these are its
@@ -35,6 +36,15 @@ impl<'p, N: Naming, J: Judge, G: Gate> PoolSeat<'p, N, J, G> {
         ensures { result ≡ self.now.refusal }
     {
         self.refusal
+    }
+
+    // Takes the room that the seat keeps for the ledger's seats: an empty list, whose memory is there already.
+    fn take_room(&mut self, alloc: Global) -> Vec<LedgerSeat>
+        ensures empty { result.items ≡ [] }
+        ensures room { vec_capacity result ≡ self.old.room }
+        ensures seat { self.new ≡ with_room self.old self.new.room }
+    {
+        mem::replace(&mut self.room, Vec::new(alloc))
     }
 
     // Ends the seat, and returns its seat of the ledger. Its deque is popped a last time before, for what that shows
@@ -113,19 +123,48 @@ fn end_work<'p, R: Wait, N: Naming, J: Judge, G: Gate>(rt: &R, seats: &mut [Pool
     drain_deques(rt, seats);
 }
 
-// Ends every seat of a pool, and returns the ledger's seats that they held, in the same order. The only error is out of
-// memory.
-fn end_seats<'p, N: Naming, J: Judge, G: Gate>(
+// Takes the room for the ledger's seats that the first of a pool's seats keeps. Without a seat it is an empty list.
+fn take_first_room<'p, N: Naming, J: Judge, G: Gate>(
     alloc: Global,
+    seats: &mut [PoolSeat<'p, N, J, G>],
+) -> Vec<LedgerSeat>
+    ensures empty { result.items ≡ [] }
+    ensures room { HasRoom seats.old → length seats.old ≤ vec_capacity result }
+    ensures seats { AllZip IsRoomless seats.old seats.new }
+{
+    if seats.is_empty() {
+        return Vec::new(alloc);
+    }
+    seats[0].take_room(alloc)
+}
+
+// Ends each of these seats, and adds the ledger's seats that they held to an empty list, in the same order. The only error
+// is out of memory, and it never comes if the list has room for them.
+fn end_each_seat<'p, N: Naming, J: Judge, G: Gate>(
+    mut entries: Vec<LedgerSeat>,
     seats: Vec<PoolSeat<'p, N, J, G>>,
 ) -> Result<Vec<LedgerSeat>, Memory>
-    ensures { IfOk result (λ v. AllZip Leaves seats.entry.items v.items) }
+    requires empty { entries.items ≡ [] }
+    ensures left { IfOk result (λ v. AllZip Leaves seats.entry.items v.items) }
+    ensures room { length seats.entry.items ≤ vec_capacity entries → IsOk result }
 {
-    let mut entries = Vec::new(alloc);
     for seat in seats {
         add_item(&mut entries, seat.end_seat())?;
     }
     Ok(entries)
+}
+
+// Ends every seat of a pool, and returns the ledger's seats that they held, in the same order. The only error is out of
+// memory, and it never comes if the first seat keeps room for them, as `make` leaves it.
+fn end_seats<'p, N: Naming, J: Judge, G: Gate>(
+    alloc: Global,
+    mut seats: Vec<PoolSeat<'p, N, J, G>>,
+) -> Result<Vec<LedgerSeat>, Memory>
+    ensures left { IfOk result (λ v. AllZip Leaves seats.entry.items v.items) }
+    ensures room { HasRoom seats.entry.items → IsOk result }
+{
+    let entries = take_first_room(alloc, seats.as_mut_slice());
+    end_each_seat(entries, seats)
 }
 
 // Returns the ledger's seats of an ended pool, if no seat stopped early, so `worst` is none. Else the error says why
@@ -151,7 +190,8 @@ fn seats_or_stop(
 
 /// Ends a pool whose seats have all worked, and returns the ledger's seats in order. All stealers are joined, and each
 /// worker empties its own deque, unless a seat stopped early. Then the error is `Memory` if a seat ran out of it. Else
-/// it is `TooMany`, with the leaf of the first seat that met a full ledger. The call waits for the ledger's lock.
+/// it is `TooMany`, with the leaf of the first seat that met a full ledger. The call waits for the ledger's lock. It needs
+/// no memory for what it returns, since the first seat keeps room for that from `make` on.
 pub fn finish<'p, R: Wait, N: Naming, J: Judge, G: Gate>(
     rt: &R,
     alloc: Global,
@@ -163,9 +203,19 @@ pub fn finish<'p, R: Wait, N: Naming, J: Judge, G: Gate>(
     ensures free { IfOk result (λ v. KeepNone seats.entry.items) }
     ensures leaves { (root : Node) → AccountFor N.rules root seats.entry.items → IfOk result
         (λ v. IsPermutation (entered_in v.items) (leaves N.rules root)) }
+    ensures rounds { (root : Node) → IsSound N.rules → IsValid N.rules root
+        → AccountFor N.rules root seats.entry.items → AreCounted seats.entry.items → IfOk result
+        (λ v. (ended : List Seat) × Ended N.rules seats.entry.items ended
+        × KeepNone ended × (rounds_of ended + 1 ≡ 2 * leaf_count N.rules root)) }
     ensures too_many { IfErr result (λ e. IfTooMany e (λ es leaf. ComeBack seats.entry.items es)) }
     ensures memory { IfErr result
         (λ e. IfTooMany e (λ es leaf. NoneIsOutOfMemory seats.entry.items)) }
+    ensures worst { IfErr result (λ e. IfTooMany e (λ es leaf. (ended : List Seat)
+        × Ended N.rules seats.entry.items ended
+        × NoneIsOutOfMemory ended × SomeIsFull N.rules leaf ended)) }
+    ensures out_of_memory { HasRoom seats.entry.items → result ≡ Err NoMemory → (ended : List Seat)
+        × Ended N.rules seats.entry.items ended × SomeIsOutOfMemory ended
+        × ((root : Node) → AccountFor N.rules root seats.entry.items → LeavesOver N.rules root ended) }
     ensures refused { IfErr result (λ e. IfTooMany e (IsRefused seats.entry.items)) }
     ensures left_over { (root : Node) → AccountFor N.rules root seats.entry.items → IfErr result
         (λ e. IfTooMany e (IsLeftOver N.rules root)) }

@@ -12,7 +12,10 @@
 //! - A deque is first in, first out: what its owner put on it is, in order, what was taken and what it holds.
 //! - A worker's end of another's deque is a `Stealer`. `make` hands them out and `finish` joins them into the deque's
 //!   owner; that each belongs to the deque that it names is the fact `AreLinked` of all seats together.
-//! - What is proved of running threads is a balance: what a worker took and had is what it put, has and entered.
+//! - What is proved of running threads is a balance, and that a worker's work is a list of acts: what it took and had is
+//!   what it put, has and entered. `pool_runs`, above, makes a run of the model of the pool of them.
+//! - A `take` makes at most 10,000 steal attempts. A seat counts its rounds, the nodes that it splits or enters: at the end
+//!   those of all seats are twice the root's leaves less one. The first seat keeps room for what `finish` hands back.
 //!
 //! Not to be touched without need: the rule of a deque (`view.rt`, `specs/Rule`), of which each step owes that it keeps
 //! it, whatever the other threads do meanwhile, and `Naming`, by which that rule, a type, speaks of the judge's nodes.

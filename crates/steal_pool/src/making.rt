@@ -4,14 +4,14 @@ ghost use Rattle.std.specs.List.{AllByRecursion, AllZip};
 ghost use Rattle.spec_trees.specs.declared.tree.Node.{Node};
 ghost use Rattle.spec_trees.specs.Tree.{IsValid};
 ghost use Rattle.span_ledger.specs.Seats.{IsSeatOf, part, table_of, terms};
-ghost use Rattle.steal_pool.specs.Seats.{IsNamed, NewSeat};
-ghost use Rattle.steal_pool.specs.Pools.{AccountFor, AllBegin, AreLinked, CanMake, HaveAllStealers, first_hand};
+ghost use Rattle.steal_pool.specs.Seats.{IsNamed, NewSeat, first_room};
+ghost use Rattle.steal_pool.specs.Pools.{AccountFor, AllBegin, AreCounted, AreLinked, CanMake, HasRoom, HaveAllStealers, first_hand};
 ghost use Rattle.steal_pool.specs.Workers.{new_stealer};
 ghost use Rattle.steal_pool.specs.Stealers.{Linking, Links, LinksOther, Opens, gained, lent};
 
 use crate::adding::add_item;
 use crate::seat::PoolSeat;
-use crate::stealer::Stealer;
+use crate::stealer::{Attempts, Stealer};
 use crate::view::Naming;
 use crate::worker::Worker;
 use gf_edges::Gate;
@@ -39,10 +39,14 @@ impl<'p, N: Naming, J: Judge, G: Gate> PoolSeat<'p, N, J, G> {
             (λ s. NewSeat (part entries) (table_of ledger.now) (terms ledger.now) hand s) }
     {
         let worker = Worker::<N>::new(alloc, entries.number(), hand)?;
+        let room = Vec::with_capacity(alloc, seat_room(entries.number()))?;
         Ok(PoolSeat {
             worker,
             entries,
             refusal: None,
+            attempts: Attempts::new(),
+            rounds: 0,
+            room,
             judge,
             ledger,
             gate,
@@ -72,6 +76,14 @@ fn first_node(root: Node, number: u32) -> Option<Node>
     ensures { result ≡ first_hand root number }
 {
     if number == 0 { Some(root) } else { None }
+}
+
+// Returns for how many seats of the ledger a new seat keeps room: the seat with number 0 keeps it for all that a ledger
+// may have, 64, so that the end of the pool needs no memory, and any other keeps none.
+fn seat_room(number: u32) -> usize
+    ensures { result ≡ first_room number }
+{
+    if number == 0 { 64 } else { 0 }
 }
 
 // Makes a seat of the pool, without stealers, for each seat of the ledger, in the same order. Seat 0 has the root in
@@ -179,6 +191,8 @@ pub fn make<'p, N: Naming, J: Judge, G: Gate>(
     ensures stealers { IfOk result (λ v. HaveAllStealers v.items) }
     ensures linked { IfOk result (λ v. AreLinked v.items) }
     ensures account { IfOk result (λ v. AccountFor N.rules root v.items) }
+    ensures counted { IfOk result (λ v. AreCounted v.items) }
+    ensures room { IfOk result (λ v. HasRoom v.items) }
 {
     let mut seats = open_seats(alloc, judge, ledger, entries, root, gate)?;
     link_all_seats(ledger, root, seats.as_mut_slice())?;

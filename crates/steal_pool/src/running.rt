@@ -1,12 +1,13 @@
 // Whole runs: all leaves of a root are entered by workers that run at once.
-ghost use Rattle.std.specs.Prelude.{◌≡◌, ◌<◌, ◌≤◌, Some, None, Ok, Err, IfOk, IfErr, length, slice_get};
+ghost use Rattle.std.specs.Prelude.{◌≡◌, ◌<◌, ◌≤◌, Some, None, Ok, Err, IfOk, IfErr, IsOk, length, slice_get};
 ghost use Rattle.std.specs.List.{AllByRecursion, AllZip};
 ghost use Rattle.spec_trees.specs.Tree.{IsSound, IsValid, leaf_count, leaves};
 ghost use Rattle.spec_trees.specs.Order.{CoverRoot, ordered_leaves};
 ghost use Rattle.spec_pool.specs.History.{Sound};
 ghost use Rattle.span_ledger.specs.Seats.{AllFit, terms};
-ghost use Rattle.steal_pool.specs.Seats.{IsLeft, IsNamed, Seat};
-ghost use Rattle.steal_pool.specs.Pools.{AccountFor, AreLinked, CanMake, IfTooMany};
+ghost use Rattle.steal_pool.specs.Seats.{IsLeft, IsNamed, Seat, rules_within};
+ghost use Rattle.steal_pool.specs.Histories.{HasFilled, HasFinished, HaveComeTo, IsTooMany};
+ghost use Rattle.steal_pool.specs.Pools.{AccountFor, AreCounted, AreLinked, CanMake, HasRoom, IfTooMany};
 ghost use Rattle.steal_pool.specs.Runs.{AreAll, AreFree, AreSeatsOf, EnteredOnce, HasWorked, HaveEntered, IsLater, IsOverfull};
 ghost use Rattle.steal_pool.specs.declared.seat.PoolError.TheVariants.{TooMany};
 
@@ -128,6 +129,10 @@ fn make_and_work<'p, R: Threads + Wait + Sync, N: Naming + Send + Sync, J: Judge
     ensures linked { IfOk result (λ v. AreLinked v.items) }
     ensures left { IfOk result (λ v. AllByRecursion (IsLeft N.rules) v.items) }
     ensures account { IfOk result (λ v. AccountFor N.rules root v.items) }
+    ensures come { IfOk result (λ v. HaveComeTo N.rules ledger.now root
+        (length entries.items) v.items) }
+    ensures counted { IfOk result (λ v. AreCounted v.items) }
+    ensures room { IfOk result (λ v. HasRoom v.items) }
     ensures seats { IfOk result (λ v. AreSeatsOf ledger.now v.items) }
 {
     rules_are_sound(judge);
@@ -166,6 +171,8 @@ fn book_or_error<N: Naming>(
     ensures leaves { IfOk result
         (λ book. ordered_leaves book.entries.items ≡ leaves N.rules root) }
     ensures once { IfOk ended (λ v. EnteredOnce v.items) }
+    ensures ended { IfOk result (λ book. IsOk ended) }
+    ensures full { result ≡ Err TooMany → IsTooMany ended }
     ensures few { IfOk result (λ book. length book.entries.items ≤ (terms ledger).limit) }
     ensures too_many { result ≡ Err TooMany → (terms ledger).limit < leaf_count N.rules root }
 {
@@ -201,6 +208,8 @@ fn run_by_naming<R: Threads + Wait + Sync, N: Naming + Send + Sync, J: Judge, G:
         ordered_leaves book.entries.items ≡ leaves (J.rules judge.now) root) }
     ensures few { IfOk result (λ book. length book.entries.items ≤ limit) }
     ensures too_many { result ≡ Err TooMany → limit < leaf_count (J.rules judge.now) root }
+    ensures finished { IfOk result (λ book. HasFinished N.rules root workers limit) }
+    ensures filled { result ≡ Err TooMany → HasFilled N.rules root workers limit }
 {
     rules_are_sound(judge);
     let Ok((ledger, entries)) = SpanLedger::new(alloc, root, limit, workers) else {
@@ -216,7 +225,8 @@ fn run_by_naming<R: Threads + Wait + Sync, N: Naming + Send + Sync, J: Judge, G:
 
 /// Returns the book of the leaves of a valid root's tree, each entered once by 1 to 64 workers that work at the same
 /// time. In order of time they are the tree's leaves from left to right. The error is `TooMany` if there are more than
-/// `limit` leaves, or `Memory`. Each worker passes the gate before each node that it judges. The first judges the root
+/// `limit` leaves, or `Memory`, which goes before it if workers met both. Each worker passes the gate before each node
+/// that it judges. The first judges the root
 /// before the others start, and once more in its work if the root is not split then.
 pub fn run<R: Threads + Wait + Sync, J: Judge, G: Gate>(
     rt: &R,
@@ -235,6 +245,10 @@ pub fn run<R: Threads + Wait + Sync, J: Judge, G: Gate>(
     ensures cover { IfOk result (λ book. CoverRoot root book.entries.items) }
     ensures few { IfOk result (λ book. length book.entries.items ≤ limit) }
     ensures too_many { result ≡ Err TooMany → limit < leaf_count (J.rules judge.now) root }
+    ensures finished { IfOk result
+        (λ book. HasFinished (rules_within (J.rules judge.now) root) root workers limit) }
+    ensures filled { result ≡ Err TooMany
+        → HasFilled (rules_within (J.rules judge.now) root) root workers limit }
 {
     rules_are_sound(judge);
     run_by_naming::<R, Brand, J, G>(rt, alloc, judge, root, workers, limit, gate)

@@ -2,6 +2,7 @@
 ghost use Rattle.std.specs.Prelude.{◌≡◌};
 ghost use Rattle.steal_pool.specs.Seats.{error_of};
 
+use crate::stealer::Attempts;
 use crate::view::Naming;
 use crate::worker::Worker;
 use gf_edges::Gate;
@@ -45,13 +46,16 @@ pub struct PoolSeat<'p, N: Naming, J: Judge, G: Gate> {
     pub(crate) worker: Worker<N>,
     pub(crate) entries: LedgerSeat,
     pub(crate) refusal: Option<Stop>,
+    pub(crate) attempts: Attempts,
+    pub(crate) rounds: u64,
+    pub(crate) room: Vec<LedgerSeat>,
     pub(crate) judge: &'p J,
     pub(crate) ledger: &'p SpanLedger,
     pub(crate) gate: &'p G,
 }
 
 impl<'p, N: Naming, J: Judge, G: Gate> Model for PoolSeat<'p, N, J, G> {
-    ghost use Rattle.std.specs.Prelude.{◌≡◌};
+    ghost use Rattle.std.specs.Prelude.{◌≡◌, [], vec_capacity};
     ghost use Rattle.spec_trees.specs.Tree.{IsValid};
     ghost use Rattle.span_ledger.specs.Seats.{IsSeatOf, part, table_of, terms};
     ghost use Rattle.steal_pool.specs.Seats.{Seat, rules_within, seat_of};
@@ -59,10 +63,11 @@ impl<'p, N: Naming, J: Judge, G: Gate> Model for PoolSeat<'p, N, J, G> {
     ghost Value = { Seat };
 
     ghost view = { λ s. seat_of s.worker (part s.entries) (table_of s.ledger.now)
-        (terms s.ledger.now) s.refusal };
+        (terms s.ledger.now) s.refusal s.attempts.made s.rounds (vec_capacity s.room) };
 
     ghost invariant = { λ s.
         (N.rules ≡ rules_within (J.rules s.judge.now) (terms s.ledger.now).root)
         × IsValid (J.rules s.judge.now) (terms s.ledger.now).root
-        × IsSeatOf s.ledger.now s.entries };
+        × IsSeatOf s.ledger.now s.entries
+        × (s.room.items ≡ []) };
 }

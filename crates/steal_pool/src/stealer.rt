@@ -31,19 +31,38 @@ impl<N: Naming> Model for Stealer<N> {
         × ((seen t.pass).owner ≡ 0) × ((seen t.pass).out ≡ 1) };
 }
 
-/// A count of the steal attempts that are left in one search for a node. Each attempt uses up one, so that a search
-/// ends.
+/// A count of steal attempts: how many are left in one search for a node, and how many were made in all searches. Each
+/// attempt uses up one, so that a search ends.
 #[derive(Drop)]
 pub struct Attempts {
     pub left: u32,
+    pub made: u64,
 }
 
 impl Attempts {
-    /// Returns a new count of the steal attempts for one search for a node: 10,000 are left, for all deques together.
-    pub fn of_search() -> Attempts
-        ensures { result.left ≡ 10000 }
+    /// Returns a count of which no attempt was made and none is left.
+    pub fn new() -> Attempts
+        ensures { result.made ≡ 0 }
     {
-        Attempts { left: 10_000 }
+        Attempts { left: 0, made: 0 }
+    }
+
+    /// Begins a search for a node: 10,000 attempts are left, for all deques together.
+    pub fn begin_search(&mut self)
+        ensures left { self.new.left ≡ 10000 }
+        ensures made { self.new.made ≡ self.old.made }
+    {
+        self.left = 10_000;
+    }
+
+    // Uses up one attempt.
+    fn use_one(&mut self)
+        requires some { 0 < self.old.left }
+        ensures left { self.new.left + 1 ≡ self.old.left }
+        ensures made { self.new.made ≤ self.old.made + 1 }
+    {
+        self.left -= 1;
+        self.made = self.made.saturating_add(1);
     }
 }
 
@@ -62,8 +81,9 @@ impl<N: Naming> Stealer<N> {
         ensures taken { MatchSteal result (self.new ≡ self.old) (self.new ≡ self.old)
             (λ n. (self.new ≡ takes_one self.old n) × IsValid N.rules n) }
         ensures counted { attempts.new.left + 1 ≡ attempts.old.left }
+        ensures made { attempts.new.made ≤ attempts.old.made + 1 }
     {
-        attempts.left -= 1;
+        attempts.use_one();
         self.reader.steal_as::<Steals<N>>(&mut self.pass)
     }
 
@@ -73,7 +93,7 @@ impl<N: Naming> Stealer<N> {
     pub fn steal(&mut self, attempts: &mut Attempts) -> Option<Node>
         ensures taken { IfSome result (λ n. (self.new ≡ takes_one self.old n) × IsValid N.rules n) }
         ensures none { IfNone result (self.new ≡ self.old) }
-        ensures fewer { attempts.new.left ≤ attempts.old.left }
+        ensures fewer { attempts.new.made + attempts.new.left ≤ attempts.old.made + attempts.old.left }
     {
         while attempts.left > 0 {
             match self.try_steal(attempts) {

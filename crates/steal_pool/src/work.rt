@@ -1,5 +1,5 @@
 // What a seat does: it puts the right part of a node away, takes the next node, and works until it finds none.
-ghost use Rattle.std.specs.Prelude.{◌≡◌, ◌<◌, ◌+◌, [], Some, None, IfSome, IfNone, MatchOption, OnOk, IfErr, length};
+ghost use Rattle.std.specs.Prelude.{◌≡◌, ◌<◌, ◌≤◌, ◌+◌, [], Some, None, IfSome, IfNone, MatchOption, OnOk, IfErr, length};
 ghost use Rattle.spec_trees.specs.declared.tree.Node.{Node};
 ghost use Rattle.spec_trees.specs.Tree.{IsLeaf, IsValid, mark_of};
 ghost use Rattle.spec_trees.specs.declared.tree.Verdict.TheVariants.{Split};
@@ -13,7 +13,7 @@ ghost use Rattle.steal_pool.specs.declared.seat.Stop.TheVariants.{Memory as OutO
 
 use crate::seat::{PoolError, PoolSeat, Stop};
 use crate::view::Naming;
-use crate::worker::Pushed;
+use crate::worker::{Pushed, count_round};
 use gf_edges::Gate;
 use halving::{Judge, Mark, Node, rules_are_sound};
 use spec_pool::Entry;
@@ -55,7 +55,9 @@ impl<'p, N: Naming, J: Judge, G: Gate> PoolSeat<'p, N, J, G> {
             unreachable!()
         };
         let (left, _) = self.judge.cut(node);
-        self.worker.push(left, right)
+        let pushed = self.worker.push(left, right);
+        self.rounds = pushed.count(self.rounds);
+        pushed
     }
 
     /// Takes the next node into the empty hand: the top of the local stack, else the front of the own deque, else a
@@ -74,8 +76,9 @@ impl<'p, N: Naming, J: Judge, G: Gate> PoolSeat<'p, N, J, G> {
         ensures works { Works N.rules self.old self.new }
         ensures same { SameSeat self.old self.new }
         ensures refusal { self.new.refusal ≡ self.old.refusal }
+        ensures few { self.new.tried ≤ self.old.tried + 10000 }
     {
-        self.worker.take()
+        self.worker.take(&mut self.attempts)
     }
 
     /// Returns the node in the seat's hand, or none if the hand is empty. `push` takes the right part of this node.
@@ -111,6 +114,7 @@ impl<'p, N: Naming, J: Judge, G: Gate> PoolSeat<'p, N, J, G> {
             Some(stop) => Err(stop),
             None => {
                 self.worker.clear_hand();
+                self.rounds = count_round(self.rounds);
                 Ok(())
             }
         }
@@ -132,7 +136,9 @@ impl<'p, N: Naming, J: Judge, G: Gate> PoolSeat<'p, N, J, G> {
     {
         rules_are_sound(self.judge);
         let (left, right) = self.judge.cut(node);
-        match self.worker.push(left, right) {
+        let pushed = self.worker.push(left, right);
+        self.rounds = pushed.count(self.rounds);
+        match pushed {
             Pushed::OnDeque => Ok(()),
             Pushed::Kept => Ok(()),
             Pushed::Memory(_) => Err(Stop::Memory),

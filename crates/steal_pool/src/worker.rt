@@ -1,9 +1,10 @@
 // A worker: its own deque, its stealers on the others, its hand and its local stack.
-ghost use Rattle.std.specs.Prelude.{◌≡◌, ◌<◌, ◌≤◌, [], Some, None, MatchOption, IsTrue, IsFalse, IfOk, IfSome, OnOk, length};
+ghost use Rattle.std.specs.Prelude.{◌≡◌, ◌+◌, ◌<◌, ◌≤◌, [], Some, None, MatchOption, IsTrue, IsFalse, IfOk, IfSome, OnOk, length};
 ghost use Rattle.spec_trees.specs.declared.tree.Node.{Node};
 ghost use Rattle.spec_trees.specs.Tree.{IsSound, IsValid};
 ghost use Rattle.steal_pool.specs.Rule.{HasLeft, IsOldest, IsUsedUp};
 ghost use Rattle.steal_pool.specs.Workers.{FindsNone, HasFilled, IsNew, IsReopened, IsSplit, TookOne, Takes, TakesInOrder, TakesKept, TakesOther, TakesOwn, Gives, gains, joins, lends, after_empty_pop, new_stealer, on_deque, on_stack, with_hand};
+ghost use Rattle.steal_pool.specs.Rounds.{Counts, rounds_of_push};
 ghost use Rattle.steal_pool.specs.declared.worker.Pushed.TheVariants.{OnDeque, Kept, Memory as OutOfMemory};
 
 use crate::adding::add_item;
@@ -28,6 +29,26 @@ pub enum Pushed {
     OnDeque,
     Kept,
     Memory(Node),
+}
+
+// Adds one to a counter of rounds, which stays as it is once it is full.
+pub(crate) fn count_round(rounds: u64) -> u64
+    ensures { Counts 1 rounds result }
+{
+    rounds.saturating_add(1)
+}
+
+impl Pushed {
+    // Counts the push as a round of the worker, unless memory was out: then the counter stays as it was.
+    pub(crate) fn count(&self, rounds: u64) -> u64
+        ensures counts { Counts (rounds_of_push self.now) rounds result }
+        ensures same { (n : Node) → self.now ≡ OutOfMemory n → result ≡ rounds }
+    {
+        match self {
+            Pushed::OnDeque | Pushed::Kept => count_round(rounds),
+            Pushed::Memory(_) => rounds,
+        }
+    }
 }
 
 /// A worker and its deque, whose nodes leave in the order in which they came. Contracts see what it has, which deque
@@ -67,7 +88,7 @@ impl<N: Naming> Model for Worker<N> {
 fn steal_from_any<N: Naming>(stealers: &mut [Stealer<N>], attempts: &mut Attempts) -> Option<Node>
     ensures taken { MatchOption result (stealers.new ≡ stealers.old)
         (λ n. TookOne n stealers.old stealers.new × IsValid N.rules n) }
-    ensures fewer { attempts.new.left ≤ attempts.old.left }
+    ensures fewer { attempts.new.made + attempts.new.left ≤ attempts.old.made + attempts.old.left }
 {
     for stealer in stealers.iter_mut() {
         if let Some(node) = stealer.steal(attempts) {
@@ -82,7 +103,7 @@ fn steal_from_any<N: Naming>(stealers: &mut [Stealer<N>], attempts: &mut Attempt
 fn sweep_deques<N: Naming>(stealers: &mut [Stealer<N>], attempts: &mut Attempts) -> Option<Node>
     ensures taken { MatchOption result (stealers.new ≡ stealers.old)
         (λ n. TookOne n stealers.old stealers.new × IsValid N.rules n) }
-    ensures fewer { attempts.new.left ≤ attempts.old.left }
+    ensures fewer { attempts.new.made + attempts.new.left ≤ attempts.old.made + attempts.old.left }
 {
     for _ in 0..MAX_SWEEPS {
         if let Some(node) = steal_from_any(stealers, attempts) {
@@ -163,15 +184,16 @@ impl<N: Naming> Worker<N> {
     // Takes the node at the front of another worker's deque into the empty hand, and returns it. At most 10,000 steal
     // attempts are made, in at most 50 sweeps over the deques. None if no attempt gets a node, and nothing changes
     // then.
-    fn steal_from_others(&mut self) -> Option<Node>
+    fn steal_from_others(&mut self, attempts: &mut Attempts) -> Option<Node>
         ensures taken { MatchOption result (self.new ≡ self.old)
             (λ n. TakesOther n self.old self.new) }
+        ensures few { attempts.new.made ≤ attempts.old.made + 10000 }
     {
         if self.stealers.is_empty() {
             return None;
         }
-        let mut attempts = Attempts::of_search();
-        match sweep_deques(self.stealers.as_mut_slice(), &mut attempts) {
+        attempts.begin_search();
+        match sweep_deques(self.stealers.as_mut_slice(), attempts) {
             Some(node) => {
                 self.hand = Some(node);
                 Some(node)
@@ -206,9 +228,10 @@ impl<N: Naming> Worker<N> {
 
     // Takes the top of the local stack into the empty hand, else the front of the own deque, else the front of another
     // worker's deque, and returns the node. None if none of them gives one.
-    fn take_in_order(&mut self) -> Option<Node>
+    fn take_in_order(&mut self, attempts: &mut Attempts) -> Option<Node>
         ensures taken { MatchOption result (FindsNone self.old self.new)
             (λ n. TakesInOrder n self.old self.new) }
+        ensures few { attempts.new.made ≤ attempts.old.made + 10000 }
     {
         if let Some(node) = self.take_from_stack() {
             return Some(node);
@@ -216,21 +239,22 @@ impl<N: Naming> Worker<N> {
         if let Some(node) = self.take_from_own_deque() {
             return Some(node);
         }
-        self.steal_from_others()
+        self.steal_from_others(attempts)
     }
 
     /// Takes the next node into the empty hand and returns it: the top of the local stack, else the front of the own
     /// deque, else the front of another worker's deque, by at most 10,000 steal attempts in at most 50 sweeps. If the
     /// own deque took 64 nodes in a row and was stolen empty, it is popped first, so that it takes nodes again. None
     /// if no node is found. The call does not allocate.
-    pub fn take(&mut self) -> Option<Node>
+    pub fn take(&mut self, attempts: &mut Attempts) -> Option<Node>
         ensures taken { MatchOption result (FindsNone self.old self.new)
             (λ n. Takes n self.old self.new) }
+        ensures few { attempts.new.made ≤ attempts.old.made + 10000 }
     {
         if let Some(node) = self.reopen_deque() {
             return Some(node);
         }
-        self.take_in_order()
+        self.take_in_order(attempts)
     }
 
     // Puts the right part of the node in the hand on the own deque, and the left part into the hand. Returns false, and

@@ -9,18 +9,18 @@ use Rattle.gf_files.proofs.reader.take_header_line.Goals as goal
 
 pub returns-in-More : goal.returns-in-More
 returns-in-More c =
-    let more : c.read_line.result ≡ Ok steps.More = c.in_ok-read_line.was ∙ (λ i. Ok (c.in-More.is i)) in
-    header_moves c.args.reader c.read_line.new.self c.args.line.now (c.read_line.ensures.not_done (subst IsNotDone (sym more) tt)) (c.read_line.ensures.more more)
-    c.requires.of_header c.read_line.ensures.says (sym c.read_line.ensures.answer ∙ more)
+    let more : c.line.result ≡ Ok steps.More = c.in_ok-line.was ∙ (λ i. Ok (c.in-More.is i)) in
+    header_moves c.args.reader c.line.new.self c.args.line.now (c.line.ensures.not_done (subst IsNotDone (sym more) tt)) (c.line.ensures.more more)
+    c.requires.of_header c.line.ensures.says (sym c.line.ensures.answer ∙ more)
 
 pub begin_blocks-requires-clause-of_header : goal.begin_blocks-requires-clause-of_header
-begin_blocks-requires-clause-of_header c = of_header_next c.args.reader c.read_line.new.self c.args.line.now c.requires.of_header c.read_line.ensures.says
+begin_blocks-requires-clause-of_header c = of_header_next c.args.reader c.line.new.self c.args.line.now c.requires.of_header c.line.ensures.says
 
 pub returns-in-Done : goal.returns-in-Done
 returns-in-Done c =
-    c.begin_blocks.ensures (readers.Header c.args.reader) (header_took c.args.reader c.read_line.new.self c.args.line.now c.read_line.ensures.says)
+    c.begin_blocks.ensures (readers.Header c.args.reader) (header_took c.args.reader c.line.new.self c.args.line.now c.line.ensures.says)
 
-pub returns-in_err-read_line : goal.returns-in_err-read_line
-returns-in_err-read_line c =
+pub returns-in_err-line : goal.returns-in_err-line
+returns-in_err-line c =
     let given = err_from_is_err_and c.from_residual.result c.from_residual.ensures.1 in
-    rw (given.1, given.2) (header_stops c.args.reader c.read_line.new.self c.args.line.now _ c.read_line.ensures.says c.in_err-read_line.ensures.refused)
+    rw (given.1, given.2) (header_stops c.args.reader c.line.new.self c.args.line.now _ c.line.ensures.says c.in_err-line.ensures.refused)

@@ -1,19 +1,29 @@
-use Rattle.std.proofs.Common.{sym, subst, arith}
+use Rattle.std.proofs.Common.{List, length, sym, subst, ap, ◌∙◌, arith}
 use Rattle.std.specs.List.{AllZip}
-use Rattle.steal_pool.specs.Closing.{Leaves}
-use Rattle.steal_pool.proofs.Listing.{zip_push, whole_step, whole_end}
+use Rattle.std.proofs.lemmas.List.{with_items_is}
+use Rattle.steal_pool.specs.Pools.{HasRoom}
+use Rattle.steal_pool.specs.Seats.{Seat}
+use Rattle.steal_pool.specs.Closing.{IsRoomless, Leaves}
+use Rattle.steal_pool.proofs.Listing.{zip_length}
+use Rattle.steal_pool.proofs.Outcomes.{if_ok}
+use Rattle.steal_pool.proofs.Pooling.{leave_as}
 use Rattle.steal_pool.proofs.finishing.end_seats.Goals as goal
 
-pub loop-seat-init : goal.loop-seat-init
-loop-seat-init g c = record { left = rw c.new-entries.ensures.items tt; whole = sym c.into_iter-seat-iterator.ensures.into_iter_gives.0 }
+pub end_each_seat-requires-clause-empty : goal.end_each_seat-requires-clause-empty
+end_each_seat-requires-clause-empty g c κs within = c.take_first_room-entries.ensures.empty
 
-pub loop-seat-preserved : goal.loop-seat-preserved
-loop-seat-preserved g c = record {
-  left = rw c.in_ok-add_item.ensures (zip_push Leaves c.loop-seat.yielded c.loop-seat.entries.items c.in-Some.seat c.end_seat.result c.loop-seat.invariant.left c.end_seat.ensures);
-  whole = whole_step c.args.seats.items c.loop-seat.yielded c.loop-seat.seat-iterator.rest.items c.next.new.self.rest.items c.in-Some.seat c.loop-seat.invariant.whole c.in-Some.ensures.steps.0;
-}
+pub returns-clause-left : goal.returns-clause-left
+returns-clause-left g c =
+    let ss = c.args.seats.items in
+    let us = c.take_first_room-entries.new.seats in
+    let same : AllZip IsRoomless ss us = subst (λ (xs : List Seat). AllZip IsRoomless xs us) c.as_mut_slice.ensures.value c.take_first_room-entries.ensures.seats in
+    let items = with_items_is c.args.seats us (zip_length IsRoomless ss us same ∙ sym c.args.seats.ok.0) in
+    if_ok c.end_each_seat.result _ _ c.end_each_seat.ensures.left (λ v left. leave_as ss us v.items same (subst (λ (xs : List Seat). AllZip Leaves xs v.items) items left))
 
-pub returns : goal.returns
-returns g c = subst (λ ss. AllZip Leaves ss c.loop-seat.entries.items)
-    (sym (whole_end c.args.seats.items c.loop-seat.yielded c.loop-seat.seat-iterator.rest.items c.loop-seat.invariant.whole (omega (arith, c.loop-seat.seat-iterator.rest.ok.0, c.in-None.ensures.steps.0))))
-    c.loop-seat.invariant.left
+pub returns-clause-room : goal.returns-clause-room
+returns-clause-room g c = λ room.
+    let ss = c.args.seats.items in
+    let us = c.take_first_room-entries.new.seats in
+    let same : AllZip IsRoomless ss us = subst (λ (xs : List Seat). AllZip IsRoomless xs us) c.as_mut_slice.ensures.value c.take_first_room-entries.ensures.seats in
+    let items = with_items_is c.args.seats us (zip_length IsRoomless ss us same ∙ sym c.args.seats.ok.0) in
+    c.end_each_seat.ensures.room (omega (arith, ap length items, zip_length IsRoomless ss us same, c.take_first_room-entries.ensures.room (subst HasRoom (sym c.as_mut_slice.ensures.value) room), ap length c.as_mut_slice.ensures.value))

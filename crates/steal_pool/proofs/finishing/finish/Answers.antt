@@ -5,7 +5,7 @@ use Rattle.steal_pool.specs.Seats.{Seat}
 use Rattle.steal_pool.specs.Closing.{Ended, Leaves, worst_stop}
 use Rattle.steal_pool.specs.Pools.{right_of}
 use Rattle.steal_pool.proofs.Listing.{map_length}
-use Rattle.steal_pool.proofs.Outcomes.{all_back, back, free, if_ok, if_too_many, left_over, memory, refused}
+use Rattle.steal_pool.proofs.Outcomes.{all_back, back, free, if_ok, if_too_many, left_over, memory, out_of_memory, refused, rounds, worst_is}
 use Rattle.steal_pool.proofs.finishing.finish.Goals as goal
 
 pub returns : goal.returns
@@ -17,15 +17,18 @@ returns g c =
     let d : Ended t ss qs = subst (λ (xs : List Seat). Ended t xs qs) c.as_mut_slice.ensures.value c.end_work.ensures in
     let len : length qs ≡ c.args.seats.len = map_length right_of ss qs d.rights ∙ sym c.args.seats.ok.0 in
     let items = with_items_is c.args.seats qs len in
-    let b : AllZip Leaves qs es = subst (λ (xs : List Seat). AllZip Leaves xs es) items c.in-Ok.ensures in
+    let b : AllZip Leaves qs es = subst (λ (xs : List Seat). AllZip Leaves xs es) items c.in-Ok.ensures.left in
     let worst = c.worst_stop-worst.result in
     let w : worst ≡ worst_stop qs = c.worst_stop-worst.ensures ∙ ap worst_stop (c.as_slice.ensures.value ∙ items) in
     record {
       back = if_ok c.seats_or_stop.result _ _ c.seats_or_stop.ensures.back (λ v is. back t ss qs es worst d b w v.items is.0);
       free = if_ok c.seats_or_stop.result _ _ c.seats_or_stop.ensures.back (λ v is. free t ss qs es worst d b w is.1);
       leaves = λ root a. if_ok c.seats_or_stop.result _ _ c.seats_or_stop.ensures.back (λ v is. all_back t ss qs es worst d b w v.items is.0 is.1 root a);
+      rounds = λ root sound valid a counted. if_ok c.seats_or_stop.result _ _ c.seats_or_stop.ensures.back (λ v is. rounds t ss qs es worst d b w is.1 root sound valid a counted);
       too_many = if_too_many c.seats_or_stop.result _ _ c.seats_or_stop.ensures.too_many (λ vs leaf is. back t ss qs es worst d b w vs is.0);
       memory = if_too_many c.seats_or_stop.result _ _ c.seats_or_stop.ensures.too_many (λ vs leaf is. memory t ss qs es worst d b w leaf is.1);
+      worst = if_too_many c.seats_or_stop.result _ _ c.seats_or_stop.ensures.too_many (λ vs leaf is. worst_is t ss qs es worst d b w leaf is.1);
+      out_of_memory = λ room e. out_of_memory t ss qs es worst d b w (c.seats_or_stop.ensures.memory e);
       refused = if_too_many c.seats_or_stop.result _ _ c.seats_or_stop.ensures.too_many (λ vs leaf is. refused t ss qs es worst d b w vs leaf is.0 is.1);
       left_over = λ root a. if_too_many c.seats_or_stop.result _ _ c.seats_or_stop.ensures.too_many (λ vs leaf is. left_over t ss qs es worst d b w vs leaf is.0 is.1 root a);
     }

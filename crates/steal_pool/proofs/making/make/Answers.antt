@@ -3,6 +3,7 @@ use Rattle.std.proofs.lemmas.List.{with_items_is}
 use Rattle.steal_pool.specs.Stealers.{Opens}
 use Rattle.steal_pool.proofs.Listing.{zip_length}
 use Rattle.steal_pool.proofs.Beginning.{opened_linking, linked_whole, new_ours}
+use Rattle.steal_pool.proofs.Counting.{begin_counted, begin_room}
 use Rattle.steal_pool.proofs.Together.{begin_account}
 use Rattle.steal_pool.proofs.making.make.Goals as goal
 
@@ -30,4 +31,6 @@ returns g c =
       stealers = linked_whole c.args.ledger.now c.args.root (length c.as_mut_slice.result.now) c.link_all_seats.new.seats l;
       linked = l.linked;
       account = begin_account g.N.Naming.rules c.args.ledger.now c.args.root c.link_all_seats.new.seats (omega (arith, c.requires.some, count)) l.begin;
+      room = begin_room c.args.ledger.now c.args.root c.link_all_seats.new.seats (omega (arith, c.requires.few, count)) l.begin;
+      counted = begin_counted c.args.ledger.now c.args.root c.link_all_seats.new.seats (omega (arith, c.requires.some, count)) l.begin;
     })

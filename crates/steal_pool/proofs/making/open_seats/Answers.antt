@@ -14,7 +14,7 @@ new-requires-clause-ours g c κs within = all_at_end (IsSeatOf c.args.ledger.now
 
 pub loop-entry-preserved : goal.loop-entry-preserved
 loop-entry-preserved g c = record {
-  opened = rw c.in_ok-add_item.ensures (zip_push (Opens c.args.ledger.now c.args.root) c.loop-entry.yielded c.loop-entry.seats.items c.in-Some.entry c.in_ok-seat.seat c.loop-entry.invariant.opened
+  opened = rw c.in_ok-add_item.ensures.added (zip_push (Opens c.args.ledger.now c.args.root) c.loop-entry.yielded c.loop-entry.seats.items c.in-Some.entry c.in_ok-seat.seat c.loop-entry.invariant.opened
       (opens_by c.args.ledger.now c.args.root c.in-Some.entry c.in_ok-seat.seat c.first_node-hand.result c.number.result c.number.ensures.number c.first_node-hand.ensures c.in_ok-seat.ensures.made));
   whole = whole_step c.args.entries.items c.loop-entry.yielded c.loop-entry.entry-iterator.rest.items c.next.new.self.rest.items c.in-Some.entry c.loop-entry.invariant.whole c.in-Some.ensures.steps.0;
 }

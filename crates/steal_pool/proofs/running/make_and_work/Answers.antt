@@ -1,10 +1,11 @@
 use Rattle.std.proofs.Common.{◌≡◌, List, length, sym, subst, ap, ◌∙◌, arith}
 use Rattle.std.proofs.lemmas.List.{with_items_is}
-use Rattle.steal_pool.specs.Pools.{AccountFor, AllBegin, AreLinked}
+use Rattle.steal_pool.specs.Pools.{AccountFor, AllBegin, AreCounted, AreLinked, HasRoom}
 use Rattle.steal_pool.specs.Runs.{IsLater}
 use Rattle.steal_pool.specs.Seats.{Seat}
+use Rattle.steal_pool.proofs.Counting.{later_counted}
 use Rattle.steal_pool.proofs.Listing.{zip_length}
-use Rattle.steal_pool.proofs.Pooling.{later_same, same_linked}
+use Rattle.steal_pool.proofs.Pooling.{later_same, same_linked, same_room}
 use Rattle.steal_pool.proofs.Returning.{begin_free, begin_hand, same_seats}
 use Rattle.steal_pool.proofs.Together.{account_later}
 use Rattle.steal_pool.proofs.running.make_and_work.Goals as goal
@@ -37,5 +38,8 @@ returns g c =
       linked = same_linked now qs same (subst AreLinked (sym is) c.in_ok-seats.ensures.linked);
       left = c.begin_and_work.ensures.left;
       account = account_later t c.args.root now qs later (subst (λ (ss : List Seat). AccountFor t c.args.root ss) (sym is) c.in_ok-seats.ensures.account);
+      come = (now, ap length is ∙ c.in_ok-seats.ensures.count, begin, later);
+      counted = later_counted t now qs later (subst AreCounted (sym is) c.in_ok-seats.ensures.counted);
+      room = same_room now qs same (subst HasRoom (sym is) c.in_ok-seats.ensures.room);
       seats = same_seats c.args.ledger.now c.args.root now qs begin same;
     })

@@ -5,7 +5,7 @@ use Rattle.steal_pool.proofs.Stopping.{left_done, left_refused, stopped_by, too_
 use Rattle.steal_pool.proofs.seat.PoolSeat.work.Goals as goal
 
 pub loop-init : goal.loop-init
-loop-init g c = record { works = seat_idle g.N.Naming.rules c.args.self.now; same = record { ways = refl; table = refl; terms = refl; number = refl }; free = c.requires.free }
+loop-init g c = record { works = seat_idle g.N.Naming.rules c.args.self.now; same = record { ways = refl; table = refl; terms = refl; number = refl; room = refl }; free = c.requires.free }
 
 pub loop-preserved : goal.loop-preserved
 loop-preserved g c = record {

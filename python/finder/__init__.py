@@ -73,26 +73,22 @@ if TYPE_CHECKING:
     from .reports.report import Summary
     from .reports.sets import Span, Spans, TimeSet, WrongSets
     from .reports.windows import Window, Windows
-    from .searches.extremes import Extreme, NotProved, greatest, least
-    from .searches.numbers import cosine_of_degrees
-    from .searches.parts import join, over_files
-    from .searches.search import (
+    from .searches.durations import far, near, retrograde, times
+    from .searches.events import (
         apsides,
-        check,
         conjunctions,
         coordinate,
         distance,
-        far,
-        find,
-        near,
         occultations,
         oppositions,
-        retrograde,
         separation,
         separation_extremes,
         stations,
-        times,
     )
+    from .searches.extremes import Extreme, NotProved, greatest, least
+    from .searches.numbers import cosine_of_degrees
+    from .searches.parts import join, over_files
+    from .searches.search import check, find
     from .searches.words import BarycentreWarning
     from .seen.apparent import ApparentPlaces, NoErfa
     from .seen.scales import Clock, Scale
@@ -130,11 +126,13 @@ _MODULES = {
     "reports.report": "Summary",
     "reports.sets": "Span Spans TimeSet WrongSets",
     "reports.windows": "Window Windows",
+    "searches.durations": "far near retrograde times",
+    "searches.events": "apsides conjunctions coordinate distance occultations oppositions separation "
+    "separation_extremes stations",
     "searches.extremes": "Extreme NotProved greatest least",
     "searches.numbers": "cosine_of_degrees",
     "searches.parts": "join over_files",
-    "searches.search": "apsides check conjunctions coordinate distance far find near occultations oppositions "
-    "retrograde separation separation_extremes stations times",
+    "searches.search": "check find",
     "searches.words": "BarycentreWarning",
     "seen.apparent": "ApparentPlaces NoErfa",
     "seen.scales": "Clock Scale",

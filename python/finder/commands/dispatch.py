@@ -111,10 +111,11 @@ def _run(word: str, rest: list[str]) -> int:
         text: Union[str, bytes] = module.run(parsed)
     except OutputFailed:
         raise
-    except (FinderError, NoProgram, ImportError, ValueError, OSError) as error:
-        print(f"finder: {str(error).removeprefix('finder: ')}", file=sys.stderr)
-        if isinstance(error, FinderError):
-            print(f"finder: likely: {error.hint}", file=sys.stderr)
+    except FinderError as error:
+        print(f"finder: {error.line.removeprefix('finder: ')}\nfinder: likely: {error.hint}", file=sys.stderr)
+        return REFUSED
+    except (NoProgram, ImportError, ValueError, OSError) as error:
+        print(f"finder: {error}", file=sys.stderr)
         return REFUSED
     print_bytes(text.encode() if isinstance(text, str) else text)
     return 0

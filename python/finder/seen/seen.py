@@ -17,7 +17,9 @@ from ..ephemeris.order import J2000_DATE
 from ..ephemeris.series import Series
 from ..public import public
 from ..reports.windows import Window, Windows
-from ..searches.search import Body
+from ..searches.bodies import body_word
+from ..searches.kinds import KINDS, ROWS
+from ..searches.options import Body
 from ..searches.times import J2000
 from .apparent import ApparentPlaces
 from .curves import Curve
@@ -25,24 +27,11 @@ from .roots import roots
 from .vectors import Floats, floats, longitude, wrapped
 
 # The kinds of distances, which an almanac prints geometric, and those whose function does not depend on axes.
-GEOMETRIC = ("apsis", "radius")
-OF_ANGLES = ("sep", "sepext", "any", "full", "annular")
-# The seconds on both sides of a window within which an event is seen, besides so many times the light's way: where two
-# bodies move almost alike in longitude, they may be seen to meet days from where their places do.
+GEOMETRIC = tuple(row.word for row in ROWS if row.view == "distance")
+OF_ANGLES = tuple(row.word for row in ROWS if row.view == "direction" and not row.frame)
+# So many times the way of light are added to the seconds within which an event of a kind is seen: where two bodies move
+# almost alike in longitude, they may be seen to meet days from where their places do.
 LIGHT_WAYS = 4.0
-REACH = {
-    "apsis": 900.0,
-    "radius": 900.0,
-    "coord": 1.0 * spans.DAY,
-    "conj": 10.0 * spans.DAY,
-    "oppo": 3.0 * spans.DAY,
-    "station": 3.0 * spans.DAY,
-    "sep": 1.0 * spans.DAY,
-    "sepext": 3.0 * spans.DAY,
-    "any": 0.1 * spans.DAY,
-    "full": 0.1 * spans.DAY,
-    "annular": 0.1 * spans.DAY,
-}
 # Precession moves a coordinate of a slow body by years in a century: there so many times the estimate of the distance
 # are added, up to the most.
 ESTIMATES = 4.0
@@ -178,10 +167,11 @@ def seen(
     geometric = Curve(made, asked)
     curve = geometric if asked["kind"] in GEOMETRIC else SeenCurve(made, asked, of_date, bending, phases)
     solved = _solved(curve, found, _signs(geometric, found))
-    if arrival is None or arrival == asked["observer"]:
+    there: Optional[str] = body_word(arrival)
+    if there is None or there == asked["observer"]:
         return solved
     places = ApparentPlaces(made, of_date=False)
-    return _arrived(solved, arrival, places.light_to(arrival, asked["observer"], solved.seconds))
+    return _arrived(solved, there, places.light_to(there, asked["observer"], solved.seconds))
 
 
 def _arrived(solved: Seen, arrival: str, ways: Floats) -> Seen:
@@ -224,7 +214,7 @@ def _series_near(found: Windows, files: Optional[Files], series: Optional[Series
         raise TypeError("the files of the search are wanted, or a series of them")
     kind = found.asked["kind"]
     # (light comes from some hours before, and so many times them are looked through)
-    pad = REACH[kind] + (MOST if kind == "coord" else 0) + 3 * spans.DAY
+    pad = KINDS[kind].reach + (MOST if kind == "coord" else 0) + 3 * spans.DAY
     pad += float((found.last - found.first).max()) / found.tick
     return Series(files, float(middle.min()) - pad, float(middle.max()) + pad)
 
@@ -247,7 +237,7 @@ def _signs(curve: Curve, found: Windows) -> Floats:
 def _reach(curve: Curve, found: Windows, middle: Floats) -> Floats:
     """The seconds on both sides of the middle of each window within which its time is looked for."""
     kind = found.asked["kind"]
-    base = floats(REACH[kind] + (found.last - found.first) / (2 * found.tick))
+    base = floats(KINDS[kind].reach + (found.last - found.first) / (2 * found.tick))
     if kind in GEOMETRIC:
         return base
     base += LIGHT_WAYS * np.nan_to_num(curve.light(middle))

@@ -56,8 +56,8 @@ class Sky(SkyText):
     >>> eph = finder.Ephemeris.open("examples/de405-2000.asc")
     >>> sky = eph.sky("51.4769 N 0 E 46 m", "2000-06-20", "2000-06-22")
     >>> print(sky.rises("sun"))
-    2000-06-20 03:42:45 UTC  sunrise  NE
-    2000-06-21 03:42:55 UTC  sunrise  NE
+    2000-06-20 03:42:34 UTC  sunrise  NE
+    2000-06-21 03:42:45 UTC  sunrise  NE
     """
 
     _source: Optional[Ephemeris] = None
@@ -94,7 +94,7 @@ class Sky(SkyText):
         >>> eph = finder.Ephemeris.open("examples/de405-2000.asc")
         >>> sky = eph.sky("51.4769 N 0 E 46 m", "2000-06-20", "2000-06-23")
         >>> print(sky.between("2000-06-21", "2000-06-22").sets("moon"))
-        2000-06-21 08:02:32 UTC  moonset  SW
+        2000-06-21 07:51:38 UTC  moonset  WSW
         """
         first, last = ticks_of_time(start, SECOND, up=False), ticks_of_time(end, SECOND, up=True)
         if not self._span[0] <= first < last <= self._span[1]:

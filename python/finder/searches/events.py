@@ -374,7 +374,7 @@ def occultations(
     >>> year, radii = "examples/de405-2000.asc", (6378, 695_700)
     >>> found = finder.occultations(year, "earth", "sun", radii, end="2000-03-01", kind="full", observer="moon")
     >>> [window.text() for window in found], found.turn.tolist()
-    (['2000-01-21T03:28:50', '2000-01-21T06:00:34'], ['rise', 'fall'])
+    (['2000-01-21T03:34:50', '2000-01-21T05:55:27'], ['rise', 'fall'])
     """
     one_of("kind", kind, COVERS)
     pair = radii_of(radii, () if start is None or hasattr(radii, "__len__") else (start,))

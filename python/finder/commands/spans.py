@@ -1,11 +1,14 @@
 """Cuts the span of a search into parts, and joins the reports of the parts into the report of the whole.
 
     tools/spans cut [--from TIME] [--to TIME] N FILE..
+    tools/spans cut [--from TIME] [--to TIME] --parts auto FILE..
     tools/spans files [--header FILE] [--from TIME] [--to TIME] FILE..
     tools/spans join [--header FILE] [--file FILE] PLAN [REPORT..]
 
 A plan has a line `FROM TO` for each part, in order, each beginning where the one before ended; a part is the times
-after FROM and up to TO. `cut` prints one of at most N parts, cut at borders of blocks. `files` prints one with a part
+after FROM and up to TO. `cut` prints one of at most N parts, cut at borders of blocks, or with `--parts auto` one of
+parts of a year each, in which bodies that almost cancel, as Moon and Earth from another planet, are found soon. `files`
+prints one with a part
 for each file, and the file's name as a third word: FILE.. are files in order of time that each begin with the last
 block of the one before, as JPL's do, and each is read after the header, or alone where it has a header of its own. Then
 
@@ -43,7 +46,7 @@ from ..ephemeris.order import WrongFiles, refuse_lost
 from ..process.path import NoProgram, find_program
 from ..reports.calendar import WrongReport, ticks_of, time_text
 from ..reports.joining import WrongParts, join_parts
-from ..reports.plans import cut, spans_of_files
+from ..reports.plans import count_of_years, cut, spans_of_files
 from ..reports.reading import read_parts, read_summary
 from ..reports.report import Part, Summary
 from .streams import read, write
@@ -142,10 +145,13 @@ def parser() -> argparse.ArgumentParser:
         command.add_argument("--from", dest="start", type=milliseconds_of)
         command.add_argument("--to", dest="end", type=milliseconds_of)
         if name == "cut":
-            command.add_argument("count", type=count_of, metavar="N")
+            command.add_argument("--parts", choices=["auto"])
+            # (N is the first of these, where the parts are not `auto`)
+            command.add_argument("files", nargs="+", metavar="[N] FILE")
+            command.set_defaults(refuse=command.error)
         else:
             command.add_argument("--header")
-        command.add_argument("files", nargs="+", metavar="FILE")
+            command.add_argument("files", nargs="+", metavar="FILE")
     command = commands.add_parser("join", allow_abbrev=False)
     command.add_argument("--header")
     command.add_argument("--file")
@@ -169,6 +175,18 @@ def joined(words: argparse.Namespace) -> str:
     return join_parts(parts, check_files).text()
 
 
+def _count_of_words(words: argparse.Namespace) -> int:
+    """The number of parts, which is the first word: what is none ends the tool with status 2."""
+    try:
+        count = count_of(words.files.pop(0))
+    except argparse.ArgumentTypeError as error:
+        words.refuse(f"argument N: {error}")
+        raise
+    if not words.files:
+        words.refuse("the following arguments are required: FILE")
+    return count
+
+
 def said(words: argparse.Namespace) -> str:
     """What the tool prints."""
     if words.command == "join":
@@ -176,7 +194,9 @@ def said(words: argparse.Namespace) -> str:
     if words.command == "files":
         lines = planned_files(words)
     else:
-        parts = cut(words.count, check(words.files), words.start, words.end)
+        count = None if words.parts else _count_of_words(words)
+        summary = check(words.files)
+        parts = cut(count or count_of_years(summary, words.start, words.end), summary, words.start, words.end)
         lines = [f"{plan_time(begin)} {plan_time(stop)}" for begin, stop in parts]
     return "".join(f"{line}\n" for line in lines)
 

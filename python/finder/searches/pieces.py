@@ -7,21 +7,20 @@ it takes a second. Parts that are cut at borders of blocks have the windows of t
 
 from __future__ import annotations
 
-from collections.abc import Callable, Sequence
+from collections.abc import Sequence
 from typing import Any, Optional
 
 from ..ephemeris.order import Content, content_of, seconds_of_date
 from ..process.program import OverBudget, Runs
 from ..reports.calendar import DAY, WrongReport, ticks_of, time_text
-from ..reports.plans import cut
+from ..reports.plans import count_of_years, cut
 from ..reports.report import Summary
 from .options import Parts, Progress
 from .words import count
 
 # Bodies that are near to one another, as another planet sees them.
 NEIGHBOURS = {"earth", "moon", "emb"}
-# The longest part of a search for such bodies, and the seconds that it may take before it is cut again.
-YEAR = 365 * DAY
+# The seconds that a part of a search for such bodies may take before it is cut again.
 BUDGET = 4.0
 Span = tuple[int, int]
 
@@ -78,16 +77,20 @@ class _Files:
         if parts != "auto":
             return self.cut(int(parts), low, high)
         if almost_cancel(options):
-            return self.cut(-(-(high - low) // (YEAR * 1_000)), low, high)
+            return self.cut(count_of_years(self.summary, low, high), low, high)
         begins = [seconds_of_date(content.blocks[0].first) * 1_000 for content in self._known]
         ends = [low, *(begin for begin in begins if low < begin < high), high]
         return list(zip(ends, ends[1:]))
 
     def cut(self, parts: int, low: int, high: int) -> list[Span]:
         """At most so many parts of a span, cut at borders of blocks."""
+        return cut(parts, self.summary, low, high)
+
+    @property
+    def summary(self) -> Summary:
+        """Their span and the length of their blocks, as `check` says them."""
         length = self.length or 1
-        blocks = (self.end - self.start) // length
-        return cut(parts, Summary(self.start, self.end, length, blocks, 0, {}), low, high)
+        return Summary(self.start, self.end, length, (self.end - self.start) // length, 0, {})
 
 
 class _Search:

@@ -49,7 +49,7 @@ figcaption i.line{display:inline-block;width:18px;height:3px;vertical-align:midd
 caption{text-align:left;color:var(--soft);font-size:14px;padding:6px 8px}
 table.days{font-variant-numeric:tabular-nums;margin-bottom:12px}
 table.days th,table.days td{padding:2px 6px;text-align:right;font-size:14px}
-table.days th[scope=colgroup]{text-align:center}table.days th:first-child,table.weeks th:first-child{text-align:left}table.days tbody th{text-align:left;color:var(--ink);white-space:nowrap}
+table.days th[scope=colgroup]{text-align:center}table.days thead tr:first-child th:first-child,table.weeks thead th:first-child{text-align:left}table.days tbody th{text-align:left;color:var(--ink);white-space:nowrap}
 table.days small{color:var(--soft)}table.days thead th{font-size:12px}
 tr.sunday th,tr.sunday td{border-bottom-color:var(--soft)}
 div.weeks{display:grid;grid-template-columns:repeat(auto-fill,minmax(250px,1fr));gap:20px}
@@ -97,13 +97,13 @@ main{padding:20px 16px 44px}h1{font-size:28px}
 .shown{gap:5px;padding:8px 0}.shown label{padding:1px 9px;font-size:13px}
 .tw{display:none}
 table.events,.events tbody,.events caption{display:block}.events thead{display:none}
-.events tr{display:grid;grid-template-columns:62px 62px minmax(0,1fr);padding:7px 0;border-bottom:1px solid var(--line)}
+.events tr{display:grid;grid-template-columns:56px 66px minmax(0,1fr);padding:7px 0;border-bottom:1px solid var(--line)}
 .events td,.events th{border:0!important;padding:0 4px!important;width:auto!important}
 .events .what{padding-left:18px!important}
 td.say,td.win{grid-column:3;text-align:left;padding-left:18px!important}td.say:empty,td.win:empty{display:none}
 td.win,tr.moment td.win{font-size:12px;line-height:1.6}td.win:not(:empty)::before{content:"certified "}
 .events tr.several{border-bottom:0;padding-bottom:0}.events tr.moment{padding:2px 0;border-bottom:0}
-.events tr.moment:has(+tr:not(.moment)),.events tr.moment:last-child{border-bottom:1px solid var(--line);padding-bottom:7px}
+.events tr.moment .at{font-size:13px}.events tr.moment:has(+tr:not(.moment)),.events tr.moment:last-child{border-bottom:1px solid var(--line);padding-bottom:7px}
 tr.eclipses{background:var(--tint)}
 table.days{table-layout:auto}table.days th[scope=colgroup]{display:none}
 table.days th,table.days td{padding:2px 3px}div.weeks{grid-template-columns:1fr}

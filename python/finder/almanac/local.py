@@ -87,6 +87,11 @@ def _lit(sky: Sky, times: Floats) -> Floats:
     return np.asarray((1 + np.cos(np.radians(phase))) / 2)
 
 
+def lit_of(sky: Sky, seconds: float) -> float:
+    """The part of the Moon's disc that is lit at seconds since J2000 (TDB)."""
+    return float(_lit(sky, np.array([seconds]))[0])
+
+
 def local_entries(
     texts: Texts, local: LocalYear, entries: Sequence[Entry], groups: Iterable[Group]
 ) -> list[Entry]:

@@ -25,6 +25,7 @@ OF_PROGRAM = {
 # The words of the package, each the name of a module of this folder, and what each does.
 WORDS = {
     "almanac": "an almanac of a year: text, a page, a table or a calendar",
+    "tonight": "one night at a place",
     "cache": "the texts that the package keeps: listed, or removed",
     "text": "a kernel, a binary file or the sky of a place as text files for the program",
 }

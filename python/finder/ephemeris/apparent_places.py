@@ -14,7 +14,7 @@ from typing import Any, Optional
 import numpy as np
 
 from ..reports.calendar import DAY
-from ..seen.apparent import erfa_package, frames_of_date
+from ..seen.apparent import check_axes, erfa_package, frames_of_date
 from ..seen.curves import LIGHT
 from ..seen.vectors import Floats, floats, length
 from ..sky.earth_rotation import EarthRotation
@@ -86,6 +86,8 @@ class ApparentSky:
     """Places of bodies from an observer on the Earth or at its centre, by name, at seconds since J2000 (TDB)."""
 
     def __init__(self, series: Series, place: Optional[Place], rotation: Optional[EarthRotation], model: Model) -> None:
+        if place is not None or model.axes != "j2000":
+            check_axes(series.number, "axes='j2000' gives the sky of the Earth's centre on the axes of the source")
         self._series = series
         self._place = place
         self._rotation = rotation

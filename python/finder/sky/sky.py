@@ -273,7 +273,7 @@ class Sky(SkyText):
         `"civil"` 6. A warning, `NeverReached`, says that it is never dark."""
         self._needs_place("dark")
         altitude = twilight_of(kind).altitude
-        made = self._by_altitude("sun", altitude, "less")
+        made = self.below_sun(kind)
         if len(made.possible) == 0:
             lowest = self._extreme_altitude("sun", np.min)
             warnings.warn(
@@ -283,6 +283,16 @@ class Sky(SkyText):
                 stacklevel=2,
             )
         return made if within is None else made & within
+
+    def below_sun(self, kind: str) -> TimeSet:
+        """The times of `dark`, without a warning where there are none."""
+        self._needs_place("dark")
+        return self._by_altitude("sun", twilight_of(kind).altitude, "less")
+
+    def by_altitude(self, body: str, degrees: float) -> TimeSet:
+        """The times of `above`, without a warning where there are none."""
+        self._needs_place("above")
+        return self._by_altitude(body, checked_altitude(degrees), "atleast")
 
     def _by_altitude(self, body: str, altitude: float, relation: str) -> TimeSet:
         """The times at which a body is at least at an altitude, or below it: of two searches, for the decimals on both

@@ -47,10 +47,13 @@ if TYPE_CHECKING:
     from .almanac.names import names
     from .almanac.pages import Format, page
     from .ephemeris.ephemeris import Ephemeris
+    from .ephemeris.fitting import FitError
     from .ephemeris.order import WrongFiles
     from .ephemeris.series import Series
-    from .ephemeris.sky_text import SkyText
+    from .ephemeris.sky_text import Edge, SkyText
+    from .ephemeris.sources import WrongSource
     from .ephemeris.stars import Star
+    from .ephemeris.text import WrongText
     from .process.path import NoProgram
     from .process.program import (
         CertificateRefused,
@@ -112,10 +115,13 @@ _MODULES = {
     "almanac.names": "names",
     "almanac.pages": "Format page",
     "ephemeris.ephemeris": "Ephemeris",
+    "ephemeris.fitting": "FitError",
     "ephemeris.order": "WrongFiles",
     "ephemeris.series": "Series",
-    "ephemeris.sky_text": "SkyText",
+    "ephemeris.sky_text": "Edge SkyText",
+    "ephemeris.sources": "WrongSource",
     "ephemeris.stars": "Star",
+    "ephemeris.text": "WrongText",
     "process.path": "NoProgram",
     "process.program": "CertificateRefused EventRefused FileFault FinderError Interrupted OutOfMemory ReadFailed "
     "SpanRefused TimedOut TooManyLeaves WordsRefused WriteFailed",
@@ -159,6 +165,7 @@ __all__ = [
     "Contact",
     "Coordinates",
     "EarthRotation",
+    "Edge",
     "Entry",
     "Ephemeris",
     "Event",
@@ -166,6 +173,7 @@ __all__ = [
     "Extreme",
     "FileFault",
     "FinderError",
+    "FitError",
     "Format",
     "Group",
     "Interrupted",
@@ -210,6 +218,8 @@ __all__ = [
     "WrongParts",
     "WrongReport",
     "WrongSets",
+    "WrongSource",
+    "WrongText",
     "almanac",
     "apsides",
     "certificate",

@@ -73,8 +73,10 @@ class Skies(InCache):
             f"Fit of moon: {sky.errors['moon']}",
         ):
             self.assertIn(said, plain)
-        found = finder.conjunctions(sky, "moon", "regulus")
-        self.assertEqual(found.bodies, {"target": "moon", "second": "regulus", "observer": "earth"})
+        bodies = {"target": "moon", "second": "regulus", "observer": "earth"}
+        self.assertEqual(finder.conjunctions(sky, "moon", "regulus").bodies, bodies)
+        self.assertEqual(finder.near(sky, "moon", "regulus", cosine="0.9").bodies, bodies)
+        self.assertEqual(finder.certificate(sky, "conj", "moon", "regulus").bodies, bodies)
 
     def test_refusals(self):
         eph = finder.Ephemeris.open(YEAR)

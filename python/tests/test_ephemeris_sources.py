@@ -129,6 +129,20 @@ class Ascii(InCache):
         whole = finder.apsides(YEAR, "moon", observer="earth", start="2000-01-01", end="2000-12-01").text
         self.assertEqual(found, whole)
 
+    def test_layouts_of_other_series(self):
+        """JPL's other series, of 64 days, of 15 columns and without a Moon's libration, are clipped and read."""
+        for path in sorted((TOP / "examples").glob("*-layout.asc")):
+            with self.subTest(path.name):
+                whole = finder.Ephemeris.open(path)
+                eph = finder.Ephemeris.open(path, whole.start + 5 * DAY, whole.start + 20 * DAY)
+                self.assertEqual(finder.check(eph).columns, finder.check(path).columns)
+                packed = self.folder / "packed.gz"
+                packed.write_bytes(gzip.compress(path.read_bytes()))
+                span = {"start": whole.start + 5 * DAY, "end": whole.start + 20 * DAY}
+                said = finder.coordinate(path, "mercury", "x", 2e7, **span).text
+                for other in (eph, finder.Ephemeris.open(packed)):
+                    self.assertEqual(finder.coordinate(other, "mercury", "x", 2e7, **span).text, said)
+
     def test_refusals(self):
         header, files = split_year(self.folder)
         opened = finder.Ephemeris.open

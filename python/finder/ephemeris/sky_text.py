@@ -52,13 +52,21 @@ MAX_BODIES = 10
 # Within so many degrees of the Sun's centre a body beyond it is compared at so many times a day.
 NEAR_SUN = 2.5
 TIMES_NEAR_SUN = 96
+# A number that is changed where the same sources give another text.
+VERSION = 1
 Made = TypeVar("Made", bound="SkyText")
 
 
+@public
 @dataclass(frozen=True)
 class Edge:
     """A span in which the motion of a body has an edge that its series does not follow: light that passes the Sun
-    within its disc. `start` and `end` in seconds since J2000 (TDB), and the largest error in arc seconds."""
+    within its disc. `start` and `end` in seconds since J2000 (TDB), and the largest error in arc seconds.
+
+    >>> sky = Ephemeris.open("examples/de405-2000.asc").sky(None, "2000-05-01", "2000-06-01")
+    >>> [(edge.body, edge.arcseconds < 1) for edge in sky.edges]
+    [('mercury', True)]
+    """
 
     body: str
     start: float
@@ -216,7 +224,7 @@ class _Making:
         stars = {name: asdict(star) for name, star in self.stars.items()}
         facts = [self.source.sha256, self._place(), self._sentence(), asdict(self.model), self.bodies, stars]
         distances = [ZENITH_DISTANCE, STAR_DISTANCE]
-        return key_of(["sky", *versions(), *facts, turns, asdict(self.asked), distances])
+        return key_of(["sky", VERSION, *versions(), *facts, turns, asdict(self.asked), distances])
 
     def _place(self) -> Optional[list[float]]:
         return None if self.place is None else [self.place.latitude, self.place.longitude, self.place.metres]

@@ -18,6 +18,8 @@ from dataclasses import dataclass
 from pathlib import Path
 from typing import Any, Optional, Union
 
+from ..public import public
+
 # What is told of a file by its first bytes.
 HEADER = re.compile(rb"[ \t]*KSIZE=")
 BLOCK_FIRST = re.compile(rb"[ \t\r\n]*[0-9]+[ \t]+[0-9]+[ \t]*\r?\n[ \t]*[0-9.]+[DdEe][+-]?[0-9]+[ \t]")
@@ -38,6 +40,7 @@ class Form(enum.Enum):
     SPK = "an SPK kernel"
 
 
+@public
 class WrongSource(ValueError):
     """A source that cannot be read: the file is named, what it is, and what to do."""
 

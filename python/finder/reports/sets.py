@@ -3,13 +3,14 @@
 from __future__ import annotations
 
 import datetime
-from collections.abc import Iterator, Sequence
+from collections.abc import Iterator, Mapping, Sequence
 from typing import Any, NamedTuple, Optional, Union, overload
 
 import numpy as np
 import numpy.typing as npt
 
 from .. import spans
+from ..ephemeris.named import bodies_of
 from ..public import public
 from ..searches.times import Time, seconds_of_length, ticks_of_time
 from .ends import Ends
@@ -180,6 +181,7 @@ class TimeSet:
         self.possible = possible
         self.made_of = tuple(dict.fromkeys(made_of))
         self.request = request
+        self.names: Mapping[str, str] = {}
 
     @classmethod
     def of_text(cls, text: str) -> TimeSet:
@@ -229,6 +231,11 @@ class TimeSet:
         """The words of the request by their names, with each option at its value or default; of a set that is made of
         others, none."""
         return {} if self.request is None else spans.words_of(self.request, spans.SET_REQUEST)
+
+    @property
+    def bodies(self) -> dict[str, str]:
+        """Target, second body and observer of the request, by the names of the `Ephemeris` that was searched."""
+        return bodies_of(self.asked, self.names)
 
     def __and__(self, other: TimeSet) -> TimeSet:
         if not isinstance(other, TimeSet):

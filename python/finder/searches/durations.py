@@ -4,7 +4,7 @@ from __future__ import annotations
 
 from typing import Any, Optional
 
-from ..ephemeris.named import held
+from ..ephemeris.named import held, names_of
 from ..ephemeris.names import Files
 from ..process.program import runs_of
 from ..public import public
@@ -58,7 +58,9 @@ def times(
     refuse_other_relations(kind, word)
     made = set_options(files, kind, target, second, start=start, end=end, relation=word, **wanted)
     refuse_words(made, SET_KINDS)
-    return TimeSet.of_report(answer("set", made, files, wanted, SetReport))
+    found = TimeSet.of_report(answer("set", made, files, wanted, SetReport))
+    found.names = names_of(files)
+    return found
 
 
 @public

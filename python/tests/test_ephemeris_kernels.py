@@ -113,7 +113,7 @@ class Kernels(InCache):
         self.assertIn("other places of 10 from 0, by 1", said)
         later = finder.Ephemeris.open([year_path, other], bodies=["sun", "earth", "moon"])
         moved = finder.Series(later).body("sun", [0.0]) - finder.Series(YEAR).body("sun", [0.0])
-        self.assertGreater(np.abs(moved).max(), 0.5)
+        self.assertGreater(np.abs(moved).max(), 0.1)
         (self.folder / "damaged.bsp").write_bytes(sun.read_bytes()[:700].ljust(2048, b"\1"))
         self.refused("damaged SPK kernel", lambda: finder.Ephemeris.open(self.folder / "damaged.bsp"))
         (self.folder / "frames.bpc").write_bytes(b"DAF/PCK ".ljust(4096, b"\0"))

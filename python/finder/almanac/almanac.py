@@ -15,8 +15,8 @@ from typing import Any, Optional, Union
 import numpy as np
 
 from ..ephemeris.ephemeris import Ephemeris
-from ..ephemeris.order import WrongFiles
 from ..ephemeris.names import Files, HasFiles, file_names
+from ..ephemeris.order import WrongFiles
 from ..ephemeris.sources import WrongSource
 from ..ephemeris.text import DATE_STEP
 from ..process.program import Program, Runs, runs_of

@@ -19,8 +19,8 @@ from ..seen.vectors import Floats, angle
 from ..sky.discs import radius_text
 from .entries import PLANETS, Contact, EclipseKind, Entry, Event, Group, Numbers
 from .names import INNER, Pair
-from .texts import Found, Recipe, Search, Text, Texts
 from .shadows import EARTH, MOON, SHADOW, SUN, moon_shadow, moon_sizes, shadow_axis
+from .texts import Found, Recipe, Search, Text, Texts
 
 # Mean radii in km (docs/RECIPES.md).
 RADII = {

@@ -134,8 +134,8 @@ class Words(argparse.ArgumentParser):
         write(os.fsencode(self.format_help()))
 
 
-def parser() -> argparse.ArgumentParser:
-    """The words that the tool takes."""
+def parser(has_parts: bool) -> argparse.ArgumentParser:
+    """The words that the tool takes: with `--parts` there is no N."""
     whole = Words(
         prog="spans", description=__doc__, allow_abbrev=False, formatter_class=argparse.RawDescriptionHelpFormatter
     )
@@ -146,12 +146,11 @@ def parser() -> argparse.ArgumentParser:
         command.add_argument("--to", dest="end", type=milliseconds_of)
         if name == "cut":
             command.add_argument("--parts", choices=["auto"])
-            # (N is the first of these, where the parts are not `auto`)
-            command.add_argument("files", nargs="+", metavar="[N] FILE")
-            command.set_defaults(refuse=command.error)
+            if not has_parts:
+                command.add_argument("count", type=count_of, metavar="N")
         else:
             command.add_argument("--header")
-            command.add_argument("files", nargs="+", metavar="FILE")
+        command.add_argument("files", nargs="+", metavar="FILE")
     command = commands.add_parser("join", allow_abbrev=False)
     command.add_argument("--header")
     command.add_argument("--file")
@@ -175,18 +174,6 @@ def joined(words: argparse.Namespace) -> str:
     return join_parts(parts, check_files).text()
 
 
-def _count_of_words(words: argparse.Namespace) -> int:
-    """The number of parts, which is the first word: what is none ends the tool with status 2."""
-    try:
-        count = count_of(words.files.pop(0))
-    except argparse.ArgumentTypeError as error:
-        words.refuse(f"argument N: {error}")
-        raise
-    if not words.files:
-        words.refuse("the following arguments are required: FILE")
-    return count
-
-
 def said(words: argparse.Namespace) -> str:
     """What the tool prints."""
     if words.command == "join":
@@ -194,9 +181,9 @@ def said(words: argparse.Namespace) -> str:
     if words.command == "files":
         lines = planned_files(words)
     else:
-        count = None if words.parts else _count_of_words(words)
         summary = check(words.files)
-        parts = cut(count or count_of_years(summary, words.start, words.end), summary, words.start, words.end)
+        count = count_of_years(summary, words.start, words.end) if words.parts else words.count
+        parts = cut(count, summary, words.start, words.end)
         lines = [f"{plan_time(begin)} {plan_time(stop)}" for begin, stop in parts]
     return "".join(f"{line}\n" for line in lines)
 
@@ -204,8 +191,9 @@ def said(words: argparse.Namespace) -> str:
 def main() -> int:
     """Does what the words ask for, and returns the status."""
     signal.signal(signal.SIGINT, signal.SIG_DFL)
+    has_parts = any(word.partition("=")[0] == "--parts" for word in sys.argv[1:])
     try:
-        write(os.fsencode(said(parser().parse_args())))
+        write(os.fsencode(said(parser(has_parts).parse_args())))
     except (WrongReport, WrongParts, WrongFiles, NoProgram, UnicodeDecodeError) as error:
         print(f"spans: {error}", file=sys.stderr)
         return 1

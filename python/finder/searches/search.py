@@ -4,7 +4,7 @@ from __future__ import annotations
 
 from typing import Any, Optional, Union, get_args
 
-from ..ephemeris.named import names_of, words_of_request
+from ..ephemeris.named import held, names_of, words_of_request
 from ..ephemeris.names import Files, some_names
 from ..process.program import Program, runs_of
 from ..public import public
@@ -60,7 +60,7 @@ def find(
     """
     options = options_of(files, kind, target, second, start=start, end=end, **wanted)
     report = answer("find", options, files, dict(wanted), Report)
-    return Windows(report, names_of(files))
+    return Windows(report, names_of(files), held(files))
 
 
 def options_of(files: Files, kind: Kind, target: Body, second: Optional[Body], **wanted: Any) -> dict[str, Any]:

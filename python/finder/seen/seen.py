@@ -6,6 +6,7 @@ same function is solved for bodies seen by light time, aberration and the bendin
 
 from __future__ import annotations
 
+from collections.abc import Iterator
 from typing import Any, Optional
 
 import numpy as np
@@ -24,6 +25,7 @@ from ..searches.times import J2000
 from .apparent import ApparentPlaces
 from .curves import Curve
 from .roots import roots
+from .scales import utc_of
 from .vectors import Floats, floats, longitude, wrapped
 
 # The kinds of distances, which an almanac prints geometric, and those whose function does not depend on axes.
@@ -96,6 +98,25 @@ class Seen:
         """The seconds by which each is seen after its window, below 0 before it."""
         return self.seconds - middles(self.found)
 
+    def __iter__(self) -> Iterator[tuple[Window, float]]:
+        """Each window, with the seconds since J2000 (TDB) at which it is seen: NaN where missing."""
+        return iter(zip(self.found, self.seconds.tolist()))
+
+    def utc64(self) -> npt.NDArray[np.datetime64]:
+        """The times of UTC as `datetime64[ms]`, to the nearest millisecond; NaT where missing."""
+        made = np.full(len(self), np.datetime64("NaT"), dtype="datetime64[ms]")
+        for place in np.flatnonzero(~self.missing).tolist():
+            made[place] = np.datetime64(utc_of(float(self.seconds[place]) + 5e-4).replace(tzinfo=None), "ms")
+        return made
+
+    def to_pandas(self) -> Any:
+        """A `DataFrame` of pandas: the columns of `Windows.to_pandas`, with `seen_utc` and `later_s`."""
+        return self.found.to_pandas(seen=self)
+
+    def to_table(self) -> Any:
+        """A `Table` of astropy: the columns of `Windows.to_table`, with `seen_utc` and `later_s`."""
+        return self.found.to_table(seen=self)
+
     def datetime64(self) -> npt.NDArray[np.datetime64]:
         """The times on the calendar of TDB, to the nearest millisecond; NaT where missing."""
         milliseconds = np.where(self.missing, 0, self.seconds * 1_000).round().astype("m8[ms]")
@@ -152,7 +173,8 @@ def seen(
     prints geometric, are solved so, within their windows. With `phases` a search `sep` of the cosine 0 is solved for a
     difference of 90 degrees in ecliptic longitude, as quarters of the Moon are defined. With `arrival`, a body, each
     time is that at which light from the request's observer comes there: `arrival="earth"` for eclipses seen from the
-    Moon. The `files` are read for it, those of the search; or `series`, what was read of them before.
+    Moon. The `files` of the search are read for it, or those that are named; or `series` is what was read of
+    them before.
 
     No window is dropped, and none has the time of another. One without a time stands in `unsolved` with the reason: the
     files end within light time of it, a graze may be no event for bodies as they are seen, two bodies that move almost
@@ -210,6 +232,7 @@ def _series_near(found: Windows, files: Optional[Files], series: Optional[Series
     """What is read of the files about the windows of a search."""
     if series is not None:
         return series
+    files = found.files if files is None else files
     if files is None:
         raise TypeError("the files of the search are wanted, or a series of them")
     kind = found.asked["kind"]

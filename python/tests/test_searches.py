@@ -148,7 +148,7 @@ class Views(InFolder):
             for row in rows.itertuples()
         ]
         self.assertEqual(lines, self.moons.text.splitlines()[1:-1])
-        self.assertEqual(rows["first_ms"].tolist(), (self.moons.first * 1000).tolist())
+        self.assertEqual(rows["first_ms"].tolist(), self.moons.first.tolist())
         self.assertEqual({*rows["target"], *rows["kind"]}, {"moon", "apsis"})
 
     @unittest.skipUnless(has("pandas"), "pandas is not here")
@@ -184,7 +184,7 @@ class Views(InFolder):
         with tempfile.TemporaryDirectory() as folder:
             name = os.path.join(folder, "moons.parquet")
             self.moons.to_pandas().to_parquet(name)
-            self.assertEqual(pandas.read_parquet(name)["last_ms"].tolist(), (self.moons.last * 1000).tolist())
+            self.assertEqual(pandas.read_parquet(name)["last_ms"].tolist(), self.moons.last.tolist())
 
     def test_what_a_notebook_shows(self):
         page = self.moons._repr_html_()

@@ -47,10 +47,13 @@ if TYPE_CHECKING:
     from .almanac.names import names
     from .almanac.pages import Format, page
     from .ephemeris.ephemeris import Ephemeris
+    from .ephemeris.fitting import FitError
     from .ephemeris.order import WrongFiles
     from .ephemeris.series import Series
-    from .ephemeris.sky_text import SkyText
+    from .ephemeris.sky_text import Edge, SkyText
+    from .ephemeris.sources import WrongSource
     from .ephemeris.stars import Star
+    from .ephemeris.text import WrongText
     from .process.path import NoProgram
     from .process.program import (
         CertificateRefused,
@@ -73,26 +76,22 @@ if TYPE_CHECKING:
     from .reports.report import Summary
     from .reports.sets import Span, Spans, TimeSet, WrongSets
     from .reports.windows import Window, Windows
-    from .searches.extremes import Extreme, NotProved, greatest, least
-    from .searches.numbers import cosine_of_degrees
-    from .searches.parts import join, over_files
-    from .searches.search import (
+    from .searches.durations import far, near, retrograde, times
+    from .searches.events import (
         apsides,
-        check,
         conjunctions,
         coordinate,
         distance,
-        far,
-        find,
-        near,
         occultations,
         oppositions,
-        retrograde,
         separation,
         separation_extremes,
         stations,
-        times,
     )
+    from .searches.extremes import Extreme, NotProved, greatest, least
+    from .searches.numbers import cosine_of_degrees
+    from .searches.parts import join, over_files
+    from .searches.search import check, find
     from .searches.words import BarycentreWarning
     from .seen.apparent import ApparentPlaces, NoErfa
     from .seen.scales import Clock, Scale
@@ -116,10 +115,13 @@ _MODULES = {
     "almanac.names": "names",
     "almanac.pages": "Format page",
     "ephemeris.ephemeris": "Ephemeris",
+    "ephemeris.fitting": "FitError",
     "ephemeris.order": "WrongFiles",
     "ephemeris.series": "Series",
-    "ephemeris.sky_text": "SkyText",
+    "ephemeris.sky_text": "Edge SkyText",
+    "ephemeris.sources": "WrongSource",
     "ephemeris.stars": "Star",
+    "ephemeris.text": "WrongText",
     "process.path": "NoProgram",
     "process.program": "CertificateRefused EventRefused FileFault FinderError Interrupted OutOfMemory ReadFailed "
     "SpanRefused TimedOut TooManyLeaves WordsRefused WriteFailed",
@@ -130,11 +132,13 @@ _MODULES = {
     "reports.report": "Summary",
     "reports.sets": "Span Spans TimeSet WrongSets",
     "reports.windows": "Window Windows",
+    "searches.durations": "far near retrograde times",
+    "searches.events": "apsides conjunctions coordinate distance occultations oppositions separation "
+    "separation_extremes stations",
     "searches.extremes": "Extreme NotProved greatest least",
     "searches.numbers": "cosine_of_degrees",
     "searches.parts": "join over_files",
-    "searches.search": "apsides check conjunctions coordinate distance far find near occultations oppositions "
-    "retrograde separation separation_extremes stations times",
+    "searches.search": "check find",
     "searches.words": "BarycentreWarning",
     "seen.apparent": "ApparentPlaces NoErfa",
     "seen.scales": "Clock Scale",
@@ -161,6 +165,7 @@ __all__ = [
     "Contact",
     "Coordinates",
     "EarthRotation",
+    "Edge",
     "Entry",
     "Ephemeris",
     "Event",
@@ -168,6 +173,7 @@ __all__ = [
     "Extreme",
     "FileFault",
     "FinderError",
+    "FitError",
     "Format",
     "Group",
     "Interrupted",
@@ -212,6 +218,8 @@ __all__ = [
     "WrongParts",
     "WrongReport",
     "WrongSets",
+    "WrongSource",
+    "WrongText",
     "almanac",
     "apsides",
     "certificate",

@@ -47,15 +47,15 @@ class Asked(InFolder):
     def test_words(self):
         for call, says in (
             (lambda: finder.apsides(YEAR, "jupitr", **self.never), ["'jupitr'", "did you mean 'jupiter'?", "pluto"]),
-            (lambda: finder.apsides(YEAR, "Moon", **self.never), ["did you mean 'moon'?"]),
+            (lambda: finder.apsides(YEAR, "Mooon", **self.never), ["did you mean 'moon'?"]),
             (lambda: finder.conjunctions(YEAR, "moon", "son", **self.never), ["did you mean 'sun'?"]),
             (lambda: finder.apsides(YEAR, "moon", observer="erth"), ["did you mean 'earth'?", "ssb"]),
             (lambda: finder.find(YEAR, "conjunction", "moon", "sun", **self.never), ["did you mean 'conj'?"]),
             (lambda: finder.find(YEAR, "transits", "moon", "sun", **self.never), ["did you mean 'any'?"]),
             (lambda: finder.find(YEAR, "zenith", "moon", **self.never), ["there are coord, radius"]),
             (lambda: finder.times(YEAR, "conj", "moon", relation="less", **self.never), ["no kind", "sepext"]),
-            (lambda: finder.coordinate(YEAR, "moon", "Z", **self.never), ["no axis", "did you mean 'z'?"]),
-            (lambda: finder.stations(YEAR, "mars", frame="ecliptic", **self.never), ["did you mean 'ecl'?"]),
+            (lambda: finder.coordinate(YEAR, "moon", "w", **self.never), ["no axis", "there are x, y, z"]),
+            (lambda: finder.stations(YEAR, "mars", frame="eclip", **self.never), ["did you mean 'ecl'?"]),
             (lambda: finder.stations(YEAR, "mars", dir="up", **self.never), ["there are any, rise, fall"]),
         ):
             self.assert_says(ValueError, says, call)
@@ -84,10 +84,7 @@ class Asked(InFolder):
         )
         self.assertEqual(one, other)
 
-    def test_times_with_a_zone(self):
-        for text in ("2000-05-01T00:00:00Z", "2000-05-01T00:00:00+02:00", "2000-05-01 00:00 UTC"):
-            call = lambda text=text: finder.apsides(YEAR, "moon", start=text, **self.never)
-            self.assert_says(ValueError, ["times are TDB", "scale='utc'"], call)
+    def test_times_that_are_none(self):
         call = lambda: finder.apsides(YEAR, "moon", start="May", **self.never)
         self.assert_says(ValueError, ["2000-05-01T12:00:00"], call)
 
@@ -128,13 +125,13 @@ class Hints(InFolder):
         rest.write_text("".join(lines[head:]))
         cut.write_text("".join(lines[: head + 100]))
         for call, begin in (
-            (lambda: finder.check(rest), "(1) the first file has no header: name the header's file before the others"),
+            (lambda: finder.check(rest), f"{rest} has blocks and no header: name the header's file too, as ['header.405'"),
             (lambda: finder.check(cut), "(1) the last file is cut off"),
             (lambda: finder.check("none"), "(1) no file has this name"),
             (lambda: finder.check([YEAR] * 65), "the span is too long for one search: finder.over_files"),
             (lambda: finder.check([YEAR, YEAR]), "(1) a file has a header of its own"),
-            (lambda: finder.apsides(YEAR, "moon", start="2010-01-01", **EARTH), "(1) the span is not within the files"),
-            (lambda: finder.conjunctions(YEAR, "mars", "mars", **EARTH), "(1) two of target, second body and observer"),
+            (lambda: finder.apsides(YEAR, "moon", start="2010-01-01", **EARTH), "the span from 2010-01-01T00:00:00 to 2001-01-11T00:00:00 is not within that of the files, from 1999-12-24"),
+            (lambda: finder.conjunctions(YEAR, "mars", "mars", **EARTH), "target= and second= are one body, 'mars'"),
             (lambda: finder.distance(YEAR, "mars", -1, **EARTH), "(1) a cosine is from -1 to 1"),
             (lambda: finder.find(YEAR, "conj", "mars", **EARTH), "an option is missing, not of its form, or not used"),
             (lambda: finder.check(YEAR, program=stand_in(self.folder, "kill -9 $$")), "(1) the system ended the"),

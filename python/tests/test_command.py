@@ -12,7 +12,7 @@ import unittest
 
 import finder
 from finder import Group
-from finder.commands.dispatch import main
+from finder.commands.dispatch import OF_PROGRAM, WORDS, main
 from tests.almanacs import has
 from tests.common import PROGRAM, TOP, YEAR, InFolder, split_year, stand_in
 
@@ -138,6 +138,73 @@ class Output(InFolder):
         self.assertEqual((done.returncode, done.stdout), (1, ""))
         self.assertIn("python3-erfa", done.stderr)
         self.assertEqual(finder.NoErfa.__bases__, (ImportError,))
+
+
+
+class OfTheProgram(InFolder):
+    """The words of the program go to it; what Python makes of its reports."""
+
+    ASKED = ("find", "--kind", "apsis", "--target", "earth", "--observer", "sun")
+
+    def test_words_go_to_the_program(self):
+        for words in ((*self.ASKED, str(YEAR)), ("check", str(YEAR)), ("gen", "405", "2", "7"), ("find", "--kind", "x")):
+            done = started(*words, capture_output=True)
+            own = subprocess.run([PROGRAM, *words], capture_output=True, check=False)
+            self.assertEqual((done.returncode, done.stdout, done.stderr), (own.returncode, own.stdout, own.stderr))
+
+    def test_help_of_each_word(self):
+        for word in OF_PROGRAM:
+            status, out, err = run(word, "--help")
+            self.assertEqual((status, err), (0, ""))
+            self.assertTrue(out.startswith(f"usage: python -m finder {word} "), out)
+        _, out, _ = run("set", "-h")
+        self.assertIn("--relation", out)
+        self.assertNotIn("--dir", out)
+        self.assertNotIn("  oppo ", out)
+        for word in WORDS:
+            status, out, err = run(word, "--help")
+            self.assertEqual((status, err, bool(out)), (0, "", True))
+
+    def test_words_that_are_none(self):
+        for words, said in (
+            (("fnd",), "finder: no word is 'fnd': did you mean 'find'?"),
+            ((), "finder: a word is missing: `python -m finder --help` lists them"),
+        ):
+            self.assertEqual(run(*words), (2, "", f"{said}\n"))
+        self.assertEqual(run("--version"), (0, f"finder {finder.__version__}\n", ""))
+
+    def test_files_in_a_wrong_order(self):
+        header, files = split_year(self.folder)
+        words = [*self.ASKED, str(header), str(files[1]), str(files[0])]
+        for more in ([], ["--format", "csv"]):
+            done = started(*words, *more, capture_output=True)
+            self.assertEqual((done.returncode, done.stdout), (1, b""))
+            self.assertIn(b"ascp0.405 begins before", done.stderr)
+
+    @unittest.skipUnless(has("pandas"), "no pandas")
+    def test_forms(self):
+        status, out, err = run(*self.ASKED, str(YEAR), "--format=csv")
+        self.assertEqual((status, err), (0, ""))
+        self.assertEqual(
+            out.splitlines()[:2],
+            [
+                "kind,target,second,name,turn,certain,first,last,first_ms,last_ms",
+                "apsis,earth,,perihelion,rise,True,2000-01-03T05:18:44.000,2000-01-03T05:18:44.000,148724000,148724000",
+            ],
+        )
+        _, out, _ = run(*self.ASKED, "--format", "json", str(YEAR))
+        self.assertEqual([row["name"] for row in json.loads(out)], ["perihelion", "aphelion", "perihelion"])
+        report = self.folder / "report"
+        report.write_bytes(started(*self.ASKED, str(YEAR), capture_output=True).stdout)
+        _, out, _ = run("report", str(report), str(report))
+        self.assertEqual(out.count("perihelion"), 4)
+        status, out, err = run("report", str(report), "--format", "xml")
+        self.assertEqual((status, out), (2, ""))
+        report.write_text("no report\n")
+        self.assertEqual(run("report", str(report))[0], 1)
+        status, out, err = run(*self.ASKED, "--format", "csv", "no-file")
+        self.assertEqual((status, out), (1, ""))
+        self.assertIn("finder: read fault no-file\nfinder: likely: ", err)
 
 
 if __name__ == "__main__":

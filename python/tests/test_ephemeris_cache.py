@@ -10,13 +10,14 @@ import resource
 import signal
 import subprocess
 import sys
+import time
 import unittest
 from pathlib import Path
 from unittest import mock
 
 import finder
 from finder.commands import dispatch
-from finder.ephemeris import cache, writing
+from finder.ephemeris import cache, sums, writing
 from tests.common import PROGRAM, TOP, YEAR, command, wait_for
 from tests.test_ephemeris_sources import InCache
 
@@ -113,6 +114,23 @@ class Cache(InCache):
         os.utime(copy, (1, 1))
         other = finder.Ephemeris.open(copy, "2000-05-01", "2000-06-01")
         self.assertNotEqual(other.sha256, first.sha256)
+
+    def test_sums_of_large_files(self):
+        """A large file is summed again where it has changed, and only there."""
+        copy = self.folder / "copy.asc"
+        copy.write_bytes(YEAR.read_bytes())
+        old = time.time() - 60
+        with mock.patch.object(sums, "LARGE", 1), mock.patch.object(sums.time, "time", lambda: old + 3_600):
+            first = sums.sha256_of_source(str(copy), copy.read_bytes(), self.folder / "cache")
+            self.assertEqual(first, sums.sha256_of([str(copy)]))
+            self.assertEqual(sums.sha256_of_source(str(copy), b"not looked at", self.folder / "cache"), first)
+            changed = YEAR.read_bytes()[:-1]
+            copy.write_bytes(changed)
+            self.assertEqual(
+                sums.sha256_of_source(str(copy), changed, self.folder / "cache"), sums.sha256_of([str(copy)])
+            )
+            cache.clear()
+            self.assertFalse((self.folder / "cache" / sums.SUMS).exists())
 
     def test_without_a_cache(self):
         eph = self.open(cache=False)

@@ -73,14 +73,19 @@ class Skies(InCache):
             f"Fit of moon: {sky.errors['moon']}",
         ):
             self.assertIn(said, plain)
-        found = finder.conjunctions(sky, "moon", "regulus")
-        self.assertEqual(found.bodies, {"target": "moon", "second": "regulus", "observer": "earth"})
+        bodies = {"target": "moon", "second": "regulus", "observer": "earth"}
+        self.assertEqual(finder.conjunctions(sky, "moon", "regulus").bodies, bodies)
+        self.assertEqual(finder.near(sky, "moon", "regulus", cosine="0.9").bodies, bodies)
+        self.assertEqual(finder.certificate(sky, "conj", "moon", "regulus").bodies, bodies)
 
     def test_refusals(self):
         eph = finder.Ephemeris.open(YEAR)
         sky = self.sky(*PLACES[0])
         said = self.refused("no body of this ephemeris is 'pluto'", lambda: finder.stations(sky, "pluto"))
         self.assertIn("zenith", said)
+        self.refused("no body of this ephemeris is 9", lambda: finder.stations(sky, 9))
+        self.assertEqual(finder.stations(sky, "Mercury").text, finder.stations(sky, 199).text)
+        self.refused("axes='ecliptic'", lambda: finder.stations(sky, "mars", frame="ECLIPJ2000"))
         self.refused("axes='ecliptic'", lambda: finder.stations(sky, "mars", frame="ecl"))
         self.refused("at most 10 bodies", lambda: self.sky(*PLACES[0], stars={f"s{n}": (n, n) for n in range(9)}))
         self.refused("no body of this sky is 'ceres'", lambda: eph.sky(None, bodies=["ceres"]))

@@ -86,6 +86,18 @@ class Ascii(InCache):
             whole = finder.apsides(YEAR, "moon", observer="earth", start=start or "2000-05-01", end=end or "2000-06-01")
             self.assertEqual(found.text, whole.text)
 
+    def test_one_text_of_two_spans(self):
+        """Two spans within the same blocks have one text, and each its own span."""
+        one, other = (
+            finder.Ephemeris.open(YEAR, *span) for span in (("2000-05-05", "2000-05-20"), ("2000-05-10", None))
+        )
+        self.assertEqual(one.asked, (10_756_800, 12_052_800))
+        again = finder.Ephemeris.open(YEAR, "2000-05-06", "2000-05-21")
+        self.assertEqual((again.files, again.asked), (one.files, (10_843_200, 12_139_200)))
+        self.assertEqual(other.asked, (11_188_800, None))
+        found = finder.apsides(again, "moon", observer="earth")
+        self.assertEqual((found.start, found.end), (10_843_200, 12_139_200))
+
     def same_series_of_blocks(self, eph):
         """The blocks of a text stand in JPL's, letter for letter."""
         self.assertIn(blocks_of(eph).strip(), YEAR.read_bytes())
@@ -128,6 +140,20 @@ class Ascii(InCache):
         found = finder.apsides(joined, "moon", observer="earth", start="2000-01-01", end="2000-12-01").text
         whole = finder.apsides(YEAR, "moon", observer="earth", start="2000-01-01", end="2000-12-01").text
         self.assertEqual(found, whole)
+
+    def test_layouts_of_other_series(self):
+        """JPL's other series, of 64 days, of 15 columns and without a Moon's libration, are clipped and read."""
+        for path in sorted((TOP / "examples").glob("*-layout.asc")):
+            with self.subTest(path.name):
+                whole = finder.Ephemeris.open(path)
+                eph = finder.Ephemeris.open(path, whole.start + 5 * DAY, whole.start + 20 * DAY)
+                self.assertEqual(finder.check(eph).columns, finder.check(path).columns)
+                packed = self.folder / "packed.gz"
+                packed.write_bytes(gzip.compress(path.read_bytes()))
+                span = {"start": whole.start + 5 * DAY, "end": whole.start + 20 * DAY}
+                said = finder.coordinate(path, "mercury", "x", 2e7, **span).text
+                for other in (eph, finder.Ephemeris.open(packed)):
+                    self.assertEqual(finder.coordinate(other, "mercury", "x", 2e7, **span).text, said)
 
     def test_refusals(self):
         header, files = split_year(self.folder)

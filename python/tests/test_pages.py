@@ -108,7 +108,11 @@ class Pages(InFolder):
         self.assertNotRegex(text, r"url\(|@import|javascript:|https?:")
         self.assertIn("default-src 'none'", text)
         entries = almanac_of_2000().entries
-        at = [CLOCK.minute(entry.seconds).isoformat() for entry in entries]
+        at = []
+        for entry in entries:
+            at.append(CLOCK.minute(entry.seconds).isoformat())
+            several = entry.contacts if len(entry.contacts) > 1 else ()
+            at += [CLOCK.at(each.seconds + 0.5).replace(microsecond=0).isoformat() for each in several]
         self.assertEqual(made.times[-len(at) :], at)
         said = "".join(made.texts)
         for words in ("Proved", "Computed in doubles, and not proved", "2000-01-21 02:05:29", "U2 totality begins"):

@@ -78,7 +78,8 @@ class Statuses(InFolder):
     def assert_refused(self, kind, status, line, call):
         with self.assertRaises(kind) as caught:
             call()
-        self.assertEqual((caught.exception.status, caught.exception.line, str(caught.exception)), (status, line, line))
+        self.assertEqual((caught.exception.status, caught.exception.line), (status, line))
+        self.assertEqual(str(caught.exception), f"{line}\nlikely: {caught.exception.hint}")
         again = pickle.loads(pickle.dumps(caught.exception))
         self.assertEqual((type(again), again.status, again.line), (kind, status, line))
         self.assertIsNone(getattr(again, "errno", None))

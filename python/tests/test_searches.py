@@ -1,8 +1,10 @@
 """Each search gives the command's report, letter for letter, and its windows as arrays, times and tables."""
 
 import importlib.util
+import os
 import re
 import shlex
+import tempfile
 import unittest
 
 import numpy as np
@@ -142,7 +144,51 @@ class Views(InFolder):
     def test_tables_of_pandas(self):
         rows = self.moons.to_pandas()
         lines = [
-            f"{'C' if row.turn else 'U'} {row.first_tdb} {row.last_tdb} {row.turn}".strip() for row in rows.itertuples()
+            f"{'C' if row.certain else 'U'} {row.first.isoformat()[:23]} {row.last.isoformat()[:23]} {row.turn or ''}".strip()
+            for row in rows.itertuples()
         ]
         self.assertEqual(lines, self.moons.text.splitlines()[1:-1])
-        self.assertEqual(rows["first"].tolist(), self.moons.first.tolist())
+        self.assertEqual(rows["first_ms"].tolist(), self.moons.first.tolist())
+        self.assertEqual({*rows["target"], *rows["kind"]}, {"moon", "apsis"})
+
+    @unittest.skipUnless(has("pandas"), "pandas is not here")
+    def test_tables_of_two_ticks_are_joined(self):
+        import pandas
+
+        seconds, exact = (finder.apsides(YEAR, "moon", tick=tick, observer="earth").to_pandas() for tick in (1, 1000))
+        self.assertEqual(list(seconds.columns), list(exact.columns))
+        self.assertEqual(seconds.dtypes.tolist(), exact.dtypes.tolist())
+        both = pandas.merge_asof(seconds, exact, on="last", direction="nearest", tolerance=pandas.Timedelta("1s"))
+        # (within the second of the one lies the millisecond of the other)
+        later = both["last_ms_x"] - both["last_ms_y"]
+        self.assertTrue(((later >= 0) & (later < 1000)).all())
+        self.assertEqual(exact["turn"].isna().tolist(), (~exact["certain"]).tolist())
+        self.assertGreater(int(exact["turn"].isna().sum()), 0)
+
+    @unittest.skipUnless(has("pandas") and has("erfa"), "pandas or erfa is not here")
+    def test_tables_with_what_is_seen(self):
+        rows = finder.conjunctions(YEAR, "moon", "sun", observer="earth", frame="ecl", end="2000-03-01").to_pandas(
+            seen=True, values=True
+        )
+        # New moons of 2000 in the Astronomical Almanac: January 6, 18:14, and February 5, 13:03 (UT).
+        self.assertEqual(rows["seen_utc"].dt.round("min").astype(str).tolist(), ["2000-01-06 18:14:00", "2000-02-05 13:03:00"])
+        self.assertLess(rows["angle"].max(), 6)
+        read = finder.Windows.of_text(self.moons.text)
+        self.assertRaises(TypeError, read.to_pandas, seen=True)
+        self.assertEqual(len(read.to_pandas(seen=True, files=YEAR)), len(self.moons))
+
+    @unittest.skipUnless(has("pandas") and has("pyarrow"), "pandas or pyarrow is not here")
+    def test_parquet(self):
+        import pandas
+
+        with tempfile.TemporaryDirectory() as folder:
+            name = os.path.join(folder, "moons.parquet")
+            self.moons.to_pandas().to_parquet(name)
+            self.assertEqual(pandas.read_parquet(name)["last_ms"].tolist(), self.moons.last.tolist())
+
+    def test_what_a_notebook_shows(self):
+        page = self.moons._repr_html_()
+        self.assertEqual((page.count("<tr>"), page.count("<caption>")), (21, 1))
+        self.assertIn("(the first 20 of 28)", page)
+        self.assertIn("and 23 more>", repr(self.moons))
+        self.assertIn("<td>perigee</td>", page)

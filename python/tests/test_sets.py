@@ -437,6 +437,9 @@ class Views(InFolder):
     @unittest.skipUnless(has("pandas"), "pandas is not here")
     def test_tables_of_pandas(self):
         rows = self.found.possible.to_pandas()
-        lines = [f"P {row.first_tdb} {row.last_tdb}" for row in rows.itertuples()]
+        lines = [f"P {row.first.isoformat()} {row.last.isoformat()}" for row in rows.itertuples()]
         self.assertEqual(lines, REPORT.splitlines()[3:5])
-        self.assertEqual(rows["last"].tolist(), self.found.possible.last.tolist())
+        self.assertEqual(rows["last_ms"].tolist(), (self.found.possible.last * 1000).tolist())
+        both = self.found.to_pandas()
+        self.assertEqual(both["certain"].tolist(), [True] * len(self.found.sure) + [False] * len(self.found))
+        self.assertEqual(list(self.found), list(self.found.possible))

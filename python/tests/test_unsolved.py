@@ -162,7 +162,8 @@ class Refusals(InFolder):
         self.assertRaises(ValueError, finder.seen, found, YEAR, phases=True)
         self.assertRaises(ValueError, finder.values, found, YEAR, of_date=True)
         self.assertRaises(ValueError, finder.values, found, YEAR, at=[0.0, 1.0])
-        self.assertRaises(TypeError, finder.seen, found)
+        self.assertEqual(list(finder.seen(found)), list(finder.seen(found, YEAR)))
+        self.assertRaises(TypeError, finder.seen, finder.Windows.of_text(found.text))
 
     def test_files_that_are_not_one_series(self):
         header, files = split_year(self.folder)

@@ -107,23 +107,26 @@ class Times(unittest.TestCase):
             )
 
     def test_what_is_no_time(self):
-        zone = datetime.timezone.utc
         for form in (
-            1.5,
             True,
             None,
-            datetime.datetime(2000, 1, 1, tzinfo=zone),
             np.timedelta64(1, "s"),
             datetime.time(1),
         ):
             self.assertRaises(TypeError, ticks_of_time, form, 1, False)
         for form in (
+            1.5,
+            float("nan"),
             "",
-            "2000",
+            "2000-1",
+            "2000T12:00",
+            "2000-01T12:00",
+            "2000-13",
             "2000-13-01",
             "2000-01-01T12",
             "2000-01-01T12:00.5",
-            "2000-01-01T12:00:00Z",
+            "2000-01-01T12:00:00+2",
+            "2000-01-01Z",
             np.datetime64("NaT"),
         ):
             self.assertRaises(ValueError, ticks_of_time, form, 1, False)
@@ -144,13 +147,61 @@ class Times(unittest.TestCase):
         self.assertEqual(ticks_of_time(utc, 1, False) - ticks_of("2000-05-28T00:00:00"), 64)
         self.assertRaises(TypeError, ticks_of_time, whole + TimeDelta([1, 2], format="sec"), 1, False)
 
-    @unittest.skipUnless(has("pandas"), "pandas is not here")
+    def test_years_months_and_floats(self):
+        for form, text in (
+            ("2031", "2031-01-01T00:00:00"),
+            ("2031-06", "2031-06-01T00:00:00"),
+            ("-000584", "-000584-01-01T00:00:00"),
+            (-43_200.0, "2000-01-01T00:00:00"),
+            (np.float64(86_400), "2000-01-02T12:00:00"),
+        ):
+            self.assertEqual(ticks_of_time(form, 1, False), ticks_of(text))
+        self.assertEqual(ticks_of_time(0.25, 1000, False), 250)
+
+    @unittest.skipUnless(has("astropy") and has("erfa"), "astropy or erfa is not here")
+    def test_times_with_a_zone(self):
+        """What a zone says is a time of UTC: astropy says which one of TDB that is."""
+        from astropy.time import Time
+
+        zone = datetime.timezone(datetime.timedelta(hours=5, minutes=30))
+        for utc, forms in {
+            "2000-05-01T00:00:00": (
+                "2000-05-01T00:00:00Z",
+                "2000-05-01 00:00 UTC",
+                "2000-05-01T02:00:00+02:00",
+                "2000-04-30T20:30:00-0330",
+                datetime.datetime(2000, 5, 1, 5, 30, tzinfo=zone),
+            ),
+            "1972-07-01T00:00:00": ("1972-07-01T00:00:00Z", datetime.datetime(1972, 7, 1, 5, 30, tzinfo=zone)),
+        }.items():
+            for form in forms:
+                for tick in (1, 1000):
+                    expected = ticks_of_time(Time(utc, scale="utc"), tick, True)
+                    self.assertEqual(ticks_of_time(form, tick, True), expected, form)
+
+    @unittest.skipUnless(has("skyfield"), "skyfield is not here")
+    def test_times_of_skyfield(self):
+        """The seconds of TDB are those of Skyfield's own two parts of a Julian date."""
+        from skyfield.api import load
+
+        scale = load.timescale(builtin=True)
+        self.assertEqual(ticks_of_time(scale.tdb(2000, 5, 1), 1000, True), ticks_of("2000-05-01T00:00:00") * 1000)
+        utc = scale.utc(2000, 5, 28)
+        self.assertEqual(ticks_of_time(utc, 1, False) - ticks_of("2000-05-28T00:00:00"), 64)
+        self.assertRaises(TypeError, ticks_of_time, scale.utc(2000, 1, [1, 2]), 1, False)
+
+    @unittest.skipUnless(has("pandas") and has("astropy"), "pandas or astropy is not here")
     def test_timestamps_of_pandas(self):
         import pandas
+        from astropy.time import Time
 
         time = pandas.Timestamp("2000-01-01T12:00:00.000000001")
         self.assertEqual([ticks_of_time(time, 1000, up) for up in (False, True)], [0, 1])
-        self.assertRaises(TypeError, ticks_of_time, time.tz_localize("UTC"), 1, False)
+        # (half an hour that comes twice, where clocks are put back: astropy's time of UTC tells which it is)
+        for fold, hour in ((True, 0), (False, 1)):
+            twice = pandas.Timestamp("2000-10-29 02:30").tz_localize("Europe/Berlin", ambiguous=fold)
+            utc = Time(f"2000-10-29T{hour:02}:30:00", scale="utc")
+            self.assertEqual(ticks_of_time(twice, 1000, True), ticks_of_time(utc, 1000, True))
 
 
 class Numbers(unittest.TestCase):

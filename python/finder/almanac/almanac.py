@@ -15,8 +15,8 @@ from typing import Any, Optional, Union
 import numpy as np
 
 from ..ephemeris.ephemeris import Ephemeris
-from ..ephemeris.order import WrongFiles
 from ..ephemeris.names import Files, HasFiles, file_names
+from ..ephemeris.order import WrongFiles
 from ..ephemeris.sources import WrongSource
 from ..ephemeris.text import DATE_STEP
 from ..process.program import Program, Runs, runs_of
@@ -210,7 +210,7 @@ def almanac_of(machine: Machine, wanted: Wanted) -> Almanac:
     local = None
     if wanted.place is not None:
         local = local_year(texts, wanted.place, wanted.delta_t, machine.runs, (start, end), groups)
-        entries = local_entries(texts, local, entries, groups, wanted.stars)
+        entries = local_entries(texts, local, entries, groups)
         done += local.searches
     inside = sorted((each for each in entries if start <= each.seconds < end), key=lambda each: each.seconds)
     names = tuple(source.files) if isinstance(machine.source, HasFiles) else tuple(_names(machine.source))

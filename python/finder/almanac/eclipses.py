@@ -16,10 +16,11 @@ import numpy as np
 from .. import spans
 from ..seen.roots import illinois
 from ..seen.vectors import Floats, angle
+from ..sky.discs import radius_text
 from .entries import PLANETS, Contact, EclipseKind, Entry, Event, Group, Numbers
 from .names import INNER, Pair
-from .texts import Found, Recipe, Search, Text, Texts
 from .shadows import EARTH, MOON, SHADOW, SUN, moon_shadow, moon_sizes, shadow_axis
+from .texts import Found, Recipe, Search, Text, Texts
 
 # Mean radii in km (docs/RECIPES.md).
 RADII = {
@@ -48,8 +49,7 @@ GRID = 241
 def _touches(
     target: str, second: str, radii: tuple[float, float], names: Pair, observer: str = "earth", kind: str = "any"
 ) -> Search:
-    # (a sum of radii has float dirt in its last digits, which would stand in the request)
-    options = {"observer": observer, "radii": tuple(f"{radius:.10g}" for radius in radii)}
+    options = {"observer": observer, "radii": tuple(map(radius_text, radii))}
     return Search(Text.EQUATOR, kind, target, second, options, names)
 
 

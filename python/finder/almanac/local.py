@@ -26,6 +26,8 @@ LOCAL = (Group.DAYS, Group.WEEKS)
 TWILIGHTS = ("civil", "nautical", "astronomical")
 # Two entries are of one eclipse where their greatest are less than so many seconds apart.
 SAME = DAY / 2
+# The seconds before and after the contacts somewhere on Earth between which a place has its own.
+AROUND = 3_600.0
 
 
 def local_year(
@@ -85,8 +87,13 @@ def _lit(sky: Sky, times: Floats) -> Floats:
     return np.asarray((1 + np.cos(np.radians(phase))) / 2)
 
 
+def lit_of(sky: Sky, seconds: float) -> float:
+    """The part of the Moon's disc that is lit at seconds since J2000 (TDB)."""
+    return float(_lit(sky, np.array([seconds]))[0])
+
+
 def local_entries(
-    texts: Texts, local: LocalYear, entries: Sequence[Entry], groups: Iterable[Group], stars: bool
+    texts: Texts, local: LocalYear, entries: Sequence[Entry], groups: Iterable[Group]
 ) -> list[Entry]:
     """The entries of an almanac with what the place sees of eclipses and occultations in their place."""
     wanted = set(groups)
@@ -101,7 +108,7 @@ def local_entries(
     if Group.MOON_MEETINGS in wanted:
         covered = [entry for entry in made if entry.event is Event.OCCULTATION]
         found = [*sky.occultations(precise=True)]
-        found += _more_occultations(texts, local, covered, sky, stars)
+        found += _more_occultations(texts, local, covered, sky)
         here = [_occultation_entry(each) for each in found]
         kept = [replace(entry, text=f"{entry.text}, not seen from here") for entry in covered if not _seen(entry, here)]
         made = [entry for entry in made if entry.event is not Event.OCCULTATION] + kept + here
@@ -120,21 +127,22 @@ def _seen_or_not(entry: Entry, sky: Sky) -> Entry:
     return replace(entry, text=f"{entry.text}, not seen from here")
 
 
-def _more_occultations(
-    texts: Texts, local: LocalYear, covered: Sequence[Entry], sky: Sky, stars: bool
-) -> list[Occultation]:
-    """The occultations of bodies that the text of the place's sky has no column for, where there are any on Earth."""
-    missing = {entry.bodies[1] for entry in covered} - set(sky.names)
-    if not missing:
-        return []
-    chosen = {name: star for name, star in STARS.items() if name in missing}
-    bodies = ["sun", "moon", *(body for body in texts.planets if body in missing)]
-    first, last = map(float, texts.span)
-    rotation = sky.earth_rotation
-    made: Sky = texts.source.sky(
-        local.place, first, last, delta_t=rotation, bodies=bodies, stars=chosen or None, cache=texts.cache
-    )
-    return list(made.run_by(sky.program).occultations(sorted(missing), precise=True))
+def _more_occultations(texts: Texts, local: LocalYear, covered: Sequence[Entry], sky: Sky) -> list[Occultation]:
+    """The occultations of bodies that the text of the place's sky has no column for: of a sky about each time at which
+    the Moon covers one somewhere on Earth."""
+    made: list[Occultation] = []
+    for entry in covered:
+        body = entry.bodies[1]
+        if body not in sky.names:
+            stars = {body: STARS[body]} if body in STARS else None
+            bodies = ["sun", "moon"] if stars else ["sun", "moon", body]
+            first, last = entry.contacts[0].seconds - AROUND, entry.contacts[-1].seconds + AROUND
+            if texts.span[0] <= first and last + DAY <= texts.span[1]:
+                about: Sky = texts.source.sky(
+                    local.place, first, last, delta_t=sky.earth_rotation, bodies=bodies, stars=stars, cache=False
+                )
+                made += about.run_by(sky.program).occultations(body, precise=True)
+    return made
 
 
 def _contacts(moments: Iterable[Moment]) -> tuple[Contact, ...]:

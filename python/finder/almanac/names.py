@@ -9,25 +9,13 @@ import numpy.typing as npt
 
 from ..public import public
 from ..reports.windows import Windows
+from ..searches.kinds import KINDS
 
 PLANETS = "mercury venus mars jupiter saturn uranus neptune pluto".split()
 # Those within the orbit of the Earth.
 INNER = ("mercury", "venus")
 # The names of rise and fall.
 Pair = tuple[str, str]
-OF_KIND: dict[str, Pair] = {
-    "coord": ("coordinate rises past the value", "coordinate falls past the value"),
-    "radius": ("goes beyond the distance", "comes within the distance"),
-    "apsis": ("least distance", "greatest distance"),
-    "conj": ("conjunction", "conjunction"),
-    "oppo": ("opposition", "opposition"),
-    "station": ("station, turns direct", "station, turns retrograde"),
-    "sep": ("comes within the angle", "leaves the angle"),
-    "sepext": ("greatest separation", "closest approach"),
-    "any": ("occultation begins", "occultation ends"),
-    "full": ("full occultation begins", "full occultation ends"),
-    "annular": ("transit begins, wholly within", "transit ends, wholly within"),
-}
 # Those of the discs of Moon and Sun from the Earth, and of a planet and the Sun.
 SOLAR: dict[str, Pair] = {
     "any": ("solar eclipse begins", "solar eclipse ends"),
@@ -94,7 +82,7 @@ def pair_of(asked: dict[str, str]) -> Pair:
         named = ("greatest elongation", "least elongation")
     elif asked["second"] == "sun":
         named = _of_discs(asked)
-    return named or OF_KIND[kind]
+    return named or KINDS[kind].names
 
 
 def _values(asked: dict[str, str]) -> list[float]:
@@ -105,7 +93,7 @@ def _of_longitudes(asked: dict[str, str], bodies: set[str]) -> Optional[Pair]:
     """The names of conjunctions, oppositions and stations."""
     kind, observer = asked["kind"], asked["observer"]
     if asked["frame"] == "eq":
-        rise, fall = OF_KIND[kind]
+        rise, fall = KINDS[kind].names
         plain = rise.partition(",")[0]
         return rise.replace(plain, f"{plain} in right ascension"), fall.replace(plain, f"{plain} in right ascension")
     if observer == "earth" and bodies == {"moon", "sun"}:

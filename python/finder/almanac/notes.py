@@ -32,7 +32,8 @@ RULES = {
     "Earth may see so.",
     Group.DAYS: "The Sun rises and sets with its centre 50' below the horizon, the Moon with its upper limb 34' below "
     "it, and twilights end with the Sun 6, 12 and 18 degrees below it. Altitudes are those of centres, without the air.",
-    Group.WEEKS: "Planets rise and set with their centres 34' below the horizon.",
+    Group.WEEKS: "Planets rise and set with their centres 34' below the horizon. The text of a place has columns for the "
+    "Sun, the Moon and the planets up to Uranus, so that Neptune and Pluto have no table here.",
 }
 POLAR_MOTION = "Polar motion, which moves a place by less than 20 m, is left out."
 NO_PLUTO = "Pluto is not here: --pluto, or pluto=True, adds it."

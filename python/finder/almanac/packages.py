@@ -14,3 +14,14 @@ def icalendar_package() -> Any:
             "a calendar needs the package icalendar (Debian: python3-icalendar; pip: icalendar); the other forms do not"
         ) from None
     return icalendar
+
+
+def jinja2_package() -> Any:
+    """The package jinja2; an `ImportError` that names it if it is missing."""
+    try:
+        import jinja2
+    except ImportError:
+        raise ImportError(
+            "a page needs the package jinja2 (Debian: python3-jinja2; pip: jinja2); the other forms do not"
+        ) from None
+    return jinja2

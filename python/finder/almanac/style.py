@@ -5,11 +5,15 @@ from .entries import Group
 LIGHT = """
 --paper:#fbfaf7;--ink:#1d2330;--soft:#566072;--line:#dcd8cf;--stripe:#f3f0e9;--card:#fff;
 --moon:#6457b0;--seasons:#a0650e;--eclipses:#b3302f;--planets:#1c7265;--meetings:#2967a8;--moon-meetings:#87527f;
---back:#f3dcd6;--tint:#faeeeb;--lit:#fff4c8;--dark:#39414f"""
+--days:#7a5c00;--weeks:#1c7265;
+--back:#f3dcd6;--tint:#faeeeb;--lit:#fff4c8;--dark:#39414f;
+--daylight:#dcebf7;--dusk1:#a9bfdb;--dusk2:#6f86b4;--dusk3:#46568c;--night:#1e2749"""
 DARK = """
 --paper:#11151d;--ink:#e7e5de;--soft:#a0a9ba;--line:#2e3644;--stripe:#1a202b;--card:#151a24;
 --moon:#aba2f2;--seasons:#e2b05c;--eclipses:#f28080;--planets:#62c8b8;--meetings:#82b6ee;--moon-meetings:#cda0c6;
---back:#45282b;--tint:#241a1f;--lit:#f5ecc0;--dark:#05070b"""
+--days:#e2b05c;--weeks:#62c8b8;
+--back:#45282b;--tint:#241a1f;--lit:#f5ecc0;--dark:#05070b;
+--daylight:#8fa6bd;--dusk1:#6d84a6;--dusk2:#48597f;--dusk3:#2c3760;--night:#0d1330"""
 
 DESK = """
 *{box-sizing:border-box}
@@ -35,6 +39,26 @@ svg .close{stroke:var(--meetings);stroke-width:3}svg .wide{stroke:var(--meetings
 figcaption{color:var(--soft);font-size:14px;margin-top:8px}
 figcaption span{white-space:nowrap;margin-right:14px}
 figcaption svg{display:inline;width:14px;height:14px;border:0;background:none;vertical-align:-2px;margin-right:4px}
+svg .daylight{fill:var(--daylight)}svg .dusk1{fill:var(--dusk1)}svg .dusk2{fill:var(--dusk2)}
+svg .dusk3{fill:var(--dusk3)}svg .night{fill:var(--night)}svg .moonlight{fill:#fff2c4}
+svg .planet{fill:none;stroke-width:1.8}svg .rising{stroke-dasharray:4 3}
+.p-mercury{stroke:#8f8f8f;background:#8f8f8f}.p-venus{stroke:#c99b00;background:#c99b00}
+.p-mars{stroke:#e0512c;background:#e0512c}.p-jupiter{stroke:#b06ad0;background:#b06ad0}
+.p-saturn{stroke:#1fa56a;background:#1fa56a}
+figcaption i.line{display:inline-block;width:18px;height:3px;vertical-align:middle;margin-right:5px}
+caption{text-align:left;color:var(--soft);font-size:14px;padding:6px 8px}
+table.days{font-variant-numeric:tabular-nums;margin-bottom:12px}
+table.days th,table.days td{padding:2px 6px;text-align:right;font-size:14px}
+table.days th[scope=colgroup]{text-align:center}table.days thead tr:first-child th:first-child,table.weeks thead th:first-child{text-align:left}table.days tbody th{text-align:left;color:var(--ink);white-space:nowrap}
+table.days small{color:var(--soft)}table.days thead th{font-size:12px}
+tr.sunday th,tr.sunday td{border-bottom-color:var(--soft)}
+div.weeks{display:grid;grid-template-columns:repeat(auto-fill,minmax(250px,1fr));gap:20px}
+table.weeks{font-variant-numeric:tabular-nums;table-layout:auto}
+table.weeks th,table.weeks td{padding:1px 6px;font-size:14px;text-align:right}
+table.weeks tbody th{color:var(--ink);font-weight:600;text-align:left}
+table.weeks caption{font-weight:600;color:var(--ink)}
+body:has(#show-days:not(:checked)) table.days,body:has(#show-weeks:not(:checked)) .weeks{display:none}
+.day.again{color:var(--soft)}
 .shown{display:none}
 @supports selector(:has(a)){.shown{display:flex;flex-wrap:wrap;gap:8px;padding:10px 0;position:sticky;top:0;z-index:1;
 background:var(--paper);border-bottom:1px solid var(--line)}}
@@ -45,20 +69,21 @@ background:var(--paper);border-bottom:1px solid var(--line)}}
 table{border-collapse:collapse;width:100%;table-layout:fixed}
 th{font-size:13px;font-weight:600;color:var(--soft);text-align:left;padding:4px 8px;border-bottom:1px solid var(--line)}
 td{padding:5px 8px;vertical-align:top;border-bottom:1px solid var(--line);overflow-wrap:break-word}
-.day{width:74px;white-space:nowrap}.day small{color:var(--soft);font-size:14px}
-.at{width:66px;white-space:nowrap;font-variant-numeric:tabular-nums}
-.what{width:356px}td.what{font-weight:600;padding-left:24px;text-indent:-16px}
-td.what::before{content:"";display:inline-block;width:9px;height:9px;border-radius:50%;background:var(--c);
+.day{width:78px;white-space:nowrap}.day small{color:var(--soft);font-size:14px}
+.at{width:72px;white-space:nowrap;font-variant-numeric:tabular-nums}
+.what{width:356px}tbody .what{font-weight:600;padding:5px 8px 5px 24px;text-indent:-16px;font-size:16px;color:var(--ink);
+vertical-align:top;overflow-wrap:break-word}
+tbody .what::before{content:"";display:inline-block;width:9px;height:9px;border-radius:50%;background:var(--c);
 margin-right:7px}
 td.say{color:var(--soft)}.say em{color:var(--eclipses);font-style:normal;font-weight:600}
 .win{width:178px;text-align:right}
 td.win{font:13px/1.85 ui-monospace,"DejaVu Sans Mono",monospace;color:var(--soft)}
-tr.moment td{font-size:14px;padding-top:1px;padding-bottom:1px;border-bottom:0}
+tr.moment td,tr.moment th{font-size:14px;padding-top:1px;padding-bottom:1px;border-bottom:0}
 tr.moment td.win{font-size:13px}
-tr.moment td.what{font-weight:400;color:var(--soft)}tr.moment td.what::before{visibility:hidden}
-tr.moment:has(+tr:not(.moment)) td,tr.moment:last-child td{border-bottom:1px solid var(--line);padding-bottom:6px}
-tr.several td{border-bottom:0}
-tr.eclipses td{background:var(--tint)}
+tr.moment .what{font-weight:400;color:var(--soft)}tr.moment .what::before{visibility:hidden}
+tr.moment:has(+tr:not(.moment))>*,tr.moment:last-child>*{border-bottom:1px solid var(--line);padding-bottom:6px}
+tr.several>*{border-bottom:0}
+tr.eclipses>*{background:var(--tint)}
 @media screen and (max-width:1080px){.what{width:30%}.win{width:175px}}
 footer{margin-top:44px;border-top:1px solid var(--line);padding-top:14px;color:var(--soft);font-size:14px;
 max-width:92ch}
@@ -69,17 +94,19 @@ PHONE = """
 main{padding:20px 16px 44px}h1{font-size:28px}
 .whole{display:none}.halves{display:block}.halves svg{margin-bottom:8px}
 .glance{columns:1;padding:8px 0}
-.shown{flex-wrap:nowrap;overflow-x:auto}.shown label{white-space:nowrap}
-table,tbody{display:block}thead{display:none}
-tr{display:grid;grid-template-columns:58px 52px minmax(0,1fr);padding:7px 0;border-bottom:1px solid var(--line)}
-td{border:0!important;padding:0 4px!important;width:auto!important}
-td.what{padding-left:18px!important}
+.shown{gap:5px;padding:8px 0}.shown label{padding:1px 9px;font-size:13px}
+.tw{display:none}
+table.events,.events tbody,.events caption{display:block}.events thead{display:none}
+.events tr{display:grid;grid-template-columns:56px 66px minmax(0,1fr);padding:7px 0;border-bottom:1px solid var(--line)}
+.events td,.events th{border:0!important;padding:0 4px!important;width:auto!important}
+.events .what{padding-left:18px!important}
 td.say,td.win{grid-column:3;text-align:left;padding-left:18px!important}td.say:empty,td.win:empty{display:none}
-td.win,tr.moment td.win{font-size:12px;line-height:1.6}td.win::before{content:"certified "}
-tr.several{border-bottom:0;padding-bottom:0}tr.moment{padding:2px 0;border-bottom:0}
-tr.moment .day{display:none}tr.moment .at{grid-column:1/3;text-align:right;padding-right:4px!important}
-tr.moment:has(+tr:not(.moment)),tr.moment:last-child{border-bottom:1px solid var(--line);padding-bottom:7px}
+td.win,tr.moment td.win{font-size:12px;line-height:1.6}td.win:not(:empty)::before{content:"certified "}
+.events tr.several{border-bottom:0;padding-bottom:0}.events tr.moment{padding:2px 0;border-bottom:0}
+.events tr.moment .at{font-size:13px}.events tr.moment:has(+tr:not(.moment)),.events tr.moment:last-child{border-bottom:1px solid var(--line);padding-bottom:7px}
 tr.eclipses{background:var(--tint)}
+table.days{table-layout:auto}table.days th[scope=colgroup]{display:none}
+table.days th,table.days td{padding:2px 3px}div.weeks{grid-template-columns:1fr}
 """
 
 PAPER = """
@@ -91,10 +118,12 @@ h1{font-size:20pt}h2{font-size:12pt;margin:10pt 0 1pt;break-after:avoid}
 figure,tr{break-inside:avoid}figure svg{width:calc(100% - 1pt)}
 figure{margin-bottom:6pt}figcaption{font-size:7.5pt;margin-top:4pt}
 figcaption span{margin-right:8pt}figcaption svg{width:8pt;height:8pt;margin-right:2pt;vertical-align:-1pt}
-th{font-size:7pt;padding:1pt 3pt}td{padding:1.5pt 3pt}td.win,tr.moment td.win{font-size:6.8pt;line-height:1.6}
-.day small,tr.moment td{font-size:7.4pt}.day{width:34pt}.at{width:38pt}.win{width:94pt}.what{width:172pt}
-td.what{padding-left:13pt;text-indent:-10pt}td.what::before{width:5pt;height:5pt;margin-right:5pt}
-tr.moment{break-before:avoid}
+th{font-size:7pt;padding:1pt 3pt}td{padding:1.5pt 3pt}caption{font-size:7.5pt;padding:2pt 3pt}td.win,tr.moment td.win{font-size:6.8pt;line-height:1.6}
+.day small,tr.moment td{font-size:7.4pt}.events .day{width:34pt}.at{width:38pt}.win{width:94pt}.what{width:172pt}
+tbody .what{padding:1.5pt 3pt 1.5pt 13pt;text-indent:-10pt;font-size:8pt}tbody .what::before{width:5pt;height:5pt;margin-right:5pt}
+tr.moment{break-before:avoid}tr.moment .what{font-size:7.4pt}
+table.days th,table.days td{padding:.6pt 2pt;font-size:7pt}table.days thead th{font-size:6.5pt}
+div.weeks{grid-template-columns:repeat(4,1fr);gap:8pt}table.weeks th,table.weeks td{padding:.4pt 2pt;font-size:6.8pt}
 *{-webkit-print-color-adjust:exact;print-color-adjust:exact}
 footer{font-size:7.5pt;max-width:none;margin-top:14pt}footer p{margin:3pt 0}footer code{font-size:6.5pt}
 """

@@ -13,11 +13,11 @@ from ..ephemeris.series import Series
 from ..ephemeris.stars import Star
 from ..process.program import Runs
 from ..reports.windows import Windows
+from ..seen.vectors import Floats
 from ..sky.flat import FlatText
 from ..sky.moments import Moment, moments_of
 from ..sky.searching import MILLISECOND, SECOND, Searches, Span
 from ..sky.sky import Sky
-from ..seen.vectors import Floats
 from .entries import PLANETS, Contact, Entry, Group
 from .names import Pair, pair_of
 

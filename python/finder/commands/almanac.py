@@ -53,8 +53,8 @@ def add_words(command: argparse.ArgumentParser) -> None:
     forms = [form.value for form in Format]
     command.add_argument("--format", choices=forms, default="text", help="text if it is not given")
     command.add_argument("--only", type=_groups, metavar="GROUP,..", help=f"some of {GROUPS}")
-    command.add_argument("--from", dest="first", type=_date, metavar="DATE", help="the first day, in the years")
-    command.add_argument("--to", dest="last", type=_date, metavar="DATE", help="the last day, in the years")
+    command.add_argument("--from", dest="first", type=date_of, metavar="DATE", help="the first day, in the years")
+    command.add_argument("--to", dest="last", type=date_of, metavar="DATE", help="the last day, in the years")
     add_place_words(command)
 
 
@@ -65,8 +65,8 @@ def add_place_words(command: argparse.ArgumentParser) -> None:
     command.add_argument("--scale", choices=scales, help="of times: utc, or tt for a year before 1972")
     command.add_argument("--tz", type=_zone, metavar="ZONE", help="a time zone, as Europe/Berlin or +02:00")
     command.add_argument("--delta-t", type=float, metavar="SECONDS", help="TT less UT1, in place of the table of UT1")
-    command.add_argument("--pluto", action="store_true", help="Pluto too")
-    command.add_argument("--stars", action="store_true", help="the Moon and Aldebaran, Regulus, Spica and Antares too")
+    command.add_argument("--pluto", action="store_true", help="Pluto too; for a night also Uranus and Neptune")
+    command.add_argument("--stars", action="store_true", help="Aldebaran, Regulus, Spica and Antares too")
     command.add_argument("--jobs", type=_count, default=1, metavar="N", help="searches at once: 1 if it is not given")
     command.add_argument("--program", metavar="FINDER", help="the command finder, else that of the package")
 
@@ -97,7 +97,8 @@ def _month(year: int, month: int) -> Dates:
     return Dates(start, datetime.date(*later, 1), f"Almanac {start:%B} {year}")
 
 
-def _date(text: str) -> datetime.date:
+def date_of(text: str) -> datetime.date:
+    """A day of a text; argparse's refusal says how it is written."""
     found = DATE.fullmatch(text)
     try:
         return datetime.date(*(int(found[name]) for name in ("year", "month", "day"))) if found else _no_date(text)

@@ -6,10 +6,12 @@ import difflib
 import importlib
 import os
 import sys
-from collections.abc import Sequence
+from collections.abc import Callable, Sequence
 from typing import Optional, Union
 
-from ..process.path import NoProgram, find_program
+from ..ephemeris.order import refuse_lost
+from ..process.path import NoProgram
+from .program import TABLED, files_of, help_of, pass_on, split_format, tabled
 from .words import OutputFailed, Parser, print_bytes
 
 # The words of the program, which are passed on, and what each does.
@@ -25,6 +27,8 @@ OF_PROGRAM = {
 # The words of the package, each the name of a module of this folder, and what each does.
 WORDS = {
     "almanac": "an almanac of a year: text, a page, a table or a calendar",
+    "tonight": "one night at a place",
+    "report": "reports of searches as a table, CSV, JSON or Parquet",
     "cache": "the texts that the package keeps: listed, or removed",
     "text": "a kernel, a binary file or the sky of a place as text files for the program",
 }
@@ -80,7 +84,7 @@ def _main(words: list[str]) -> int:
         print_bytes(f"finder {__version__}\n".encode())
         return 0
     if first in OF_PROGRAM:
-        return pass_on(words)
+        return _of_program(words)
     if first in WORDS:
         return _run(first, words[1:])
     near = difflib.get_close_matches(first, [*OF_PROGRAM, *WORDS], 1)
@@ -89,32 +93,45 @@ def _main(words: list[str]) -> int:
     return WRONG_WORDS
 
 
-def pass_on(words: Sequence[str]) -> int:
-    """Becomes the program, which has the words, the streams and the status."""
+def _of_program(words: list[str]) -> int:
+    """Prints the help of a word of the program, or its report in another form, or becomes the program."""
+    word, *rest = words
+    if set(rest) & {"-h", "--help"}:
+        print_bytes(help_of(word, program_name(), OF_PROGRAM[word]).encode())
+        return 0
+    left, form = split_format(rest) if word in TABLED else (rest, "")
     try:
-        program = find_program()
-        os.execv(program, [program, *words])
-    except OSError as error:
+        # (the program passes over blocks that come too late, without a word)
+        refuse_lost(files_of(left))
+        return _printed(lambda: tabled([word, *left], form)) if form else pass_on(words)
+    except (OSError, ValueError) as error:
         print(f"finder: {error}", file=sys.stderr)
         return REFUSED
 
 
 def _run(word: str, rest: list[str]) -> int:
     """Runs a word of the package, and prints what it returns."""
-    from ..process.program import FinderError
-
     module = importlib.import_module(f"{__package__}.{word}")
     parser = Parser(word, program_name(), module.DESCRIPTION, f"{module.EXAMPLES}\n\n{STATUS}")
     module.add_words(parser)
     parsed = parser.parse_args(rest)
+    run: Callable[..., Union[str, bytes]] = module.run
+    return _printed(lambda: run(parsed))
+
+
+def _printed(make: Callable[[], Union[str, bytes]]) -> int:
+    """Prints what is made, or says why it is not, and returns the status."""
+    from ..process.program import FinderError
+
     try:
-        text: Union[str, bytes] = module.run(parsed)
+        text = make()
     except OutputFailed:
         raise
-    except (FinderError, NoProgram, ImportError, ValueError, OSError) as error:
-        print(f"finder: {str(error).removeprefix('finder: ')}", file=sys.stderr)
-        if isinstance(error, FinderError):
-            print(f"finder: likely: {error.hint}", file=sys.stderr)
+    except FinderError as error:
+        print(f"finder: {error.line.removeprefix('finder: ')}\nfinder: likely: {error.hint}", file=sys.stderr)
+        return REFUSED
+    except (NoProgram, ImportError, ValueError, OSError) as error:
+        print(f"finder: {error}", file=sys.stderr)
         return REFUSED
     print_bytes(text.encode() if isinstance(text, str) else text)
     return 0

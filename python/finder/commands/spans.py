@@ -1,11 +1,14 @@
 """Cuts the span of a search into parts, and joins the reports of the parts into the report of the whole.
 
     tools/spans cut [--from TIME] [--to TIME] N FILE..
+    tools/spans cut [--from TIME] [--to TIME] --parts auto FILE..
     tools/spans files [--header FILE] [--from TIME] [--to TIME] FILE..
     tools/spans join [--header FILE] [--file FILE] PLAN [REPORT..]
 
 A plan has a line `FROM TO` for each part, in order, each beginning where the one before ended; a part is the times
-after FROM and up to TO. `cut` prints one of at most N parts, cut at borders of blocks. `files` prints one with a part
+after FROM and up to TO. `cut` prints one of at most N parts, cut at borders of blocks, or with `--parts auto` one of
+parts of a year each, in which bodies that almost cancel, as Moon and Earth from another planet, are found soon. `files`
+prints one with a part
 for each file, and the file's name as a third word: FILE.. are files in order of time that each begin with the last
 block of the one before, as JPL's do, and each is read after the header, or alone where it has a header of its own. Then
 
@@ -43,7 +46,7 @@ from ..ephemeris.order import WrongFiles, refuse_lost
 from ..process.path import NoProgram, find_program
 from ..reports.calendar import WrongReport, ticks_of, time_text
 from ..reports.joining import WrongParts, join_parts
-from ..reports.plans import cut, spans_of_files
+from ..reports.plans import count_of_years, cut, spans_of_files
 from ..reports.reading import read_parts, read_summary
 from ..reports.report import Part, Summary
 from .streams import read, write
@@ -131,8 +134,8 @@ class Words(argparse.ArgumentParser):
         write(os.fsencode(self.format_help()))
 
 
-def parser() -> argparse.ArgumentParser:
-    """The words that the tool takes."""
+def parser(has_parts: bool) -> argparse.ArgumentParser:
+    """The words that the tool takes: with `--parts` there is no N."""
     whole = Words(
         prog="spans", description=__doc__, allow_abbrev=False, formatter_class=argparse.RawDescriptionHelpFormatter
     )
@@ -142,7 +145,9 @@ def parser() -> argparse.ArgumentParser:
         command.add_argument("--from", dest="start", type=milliseconds_of)
         command.add_argument("--to", dest="end", type=milliseconds_of)
         if name == "cut":
-            command.add_argument("count", type=count_of, metavar="N")
+            command.add_argument("--parts", choices=["auto"])
+            if not has_parts:
+                command.add_argument("count", type=count_of, metavar="N")
         else:
             command.add_argument("--header")
         command.add_argument("files", nargs="+", metavar="FILE")
@@ -176,7 +181,9 @@ def said(words: argparse.Namespace) -> str:
     if words.command == "files":
         lines = planned_files(words)
     else:
-        parts = cut(words.count, check(words.files), words.start, words.end)
+        summary = check(words.files)
+        count = count_of_years(summary, words.start, words.end) if words.parts else words.count
+        parts = cut(count, summary, words.start, words.end)
         lines = [f"{plan_time(begin)} {plan_time(stop)}" for begin, stop in parts]
     return "".join(f"{line}\n" for line in lines)
 
@@ -184,8 +191,9 @@ def said(words: argparse.Namespace) -> str:
 def main() -> int:
     """Does what the words ask for, and returns the status."""
     signal.signal(signal.SIGINT, signal.SIG_DFL)
+    has_parts = any(word.partition("=")[0] == "--parts" for word in sys.argv[1:])
     try:
-        write(os.fsencode(said(parser().parse_args())))
+        write(os.fsencode(said(parser(has_parts).parse_args())))
     except (WrongReport, WrongParts, WrongFiles, NoProgram, UnicodeDecodeError) as error:
         print(f"spans: {error}", file=sys.stderr)
         return 1

@@ -10,7 +10,7 @@ from typing import Optional
 import numpy as np
 
 from .. import spans
-from ..almanac.entries import PLANETS, Almanac, Entry, Event, Group, Side
+from ..almanac.entries import Almanac, Entry, Event, Group, Side
 from ..almanac.frame import MARK, MARKS, Frame, Label, Lane, day_text, labels, path, placed, tip
 from ..almanac.names import INNER
 from ..seen.scales import Clock
@@ -34,6 +34,8 @@ PHASES = {
     Event.FULL_MOON: LIT,
     Event.LAST_QUARTER: DARK + '<path d="M0-5.6a5.6 5.6 0 0 0 0 11.2z" fill="var(--lit)"/>',
 }
+# What is said of a drawing to those who do not see it.
+SAID = (Event.SOLAR_ECLIPSE, Event.LUNAR_ECLIPSE, Event.TRANSIT, Event.OPPOSITION, Event.GREATEST_ELONGATION)
 ECLIPSES = {Event.SOLAR_ECLIPSE: "Solar, ", Event.LUNAR_ECLIPSE: "Lunar, ", Event.TRANSIT: "Transit of "}
 
 
@@ -65,13 +67,13 @@ class Drawing:
                 rows = max((label.row + 1 for label in self._labels(self._of(group), MOST_ROWS) if label), default=1)
                 self._add(name, max(28, 10 + rows * self._row), self._named)
         if Group.PLANETS in groups:
-            for planet in PLANETS:
+            for planet in self._found.bodies:
                 self._add(planet.capitalize(), 46, self._planet)
         if Group.MEETINGS in groups:
             self._add("Meetings", 22 + MEETING_ROWS * self._row, self._meetings)
 
-    def svg(self) -> str:
-        """The drawing; nothing where no group has a lane."""
+    def svg(self, name: str = "year") -> str:
+        """The drawing, whose parts are named after it; nothing where no group has a lane."""
         if not self._lanes:
             return ""
         frame, height = self._frame, self._height + FOOT
@@ -79,11 +81,19 @@ class Drawing:
         for lane, draw in self._lanes:
             parts.append(f'<text x="8" y="{lane.middle + 4:.1f}" class="lane">{lane.name}</text>')
             parts += draw(lane)
-        label = html.escape(f"{self._found.title} as a line of time")
+        said = f'<title id="{name}-title">{html.escape(f"{self._found.title} as a line of time")}</title>'
+        said += f'<desc id="{name}-desc">{html.escape(self._said())}</desc>'
         return (
-            f'<svg viewBox="0 0 {frame.wide:.0f} {height:.0f}" role="img" aria-label="{label}" '
-            f'font-size="{frame.letters:g}">{"".join(parts)}</svg>'
+            f'<svg viewBox="0 0 {frame.wide:.0f} {height:.0f}" role="img" aria-labelledby="{name}-title {name}-desc" '
+            f'font-size="{frame.letters:g}">{said}{"".join(parts)}</svg>'
         )
+
+    def _said(self) -> str:
+        """What the drawing shows, in sentences for those who do not see it."""
+        lanes = ", ".join(lane.name for lane, _ in self._lanes)
+        great = [each for each in self._entries if each.event in SAID]
+        days = "; ".join(f"{each.name}, {day_text(each, self._clock)}" for each in great)
+        return f"Rows of {lanes}, from left to right along the year. {days}. All of it stands in the tables below."
 
     def _of(self, group: Group) -> list[Entry]:
         return [entry for entry in self._entries if entry.group is group]

@@ -14,13 +14,14 @@ from typing import Any, Optional
 import numpy as np
 
 from ..reports.calendar import DAY
-from ..seen.apparent import erfa_package, frames_of_date
+from ..seen.apparent import check_axes, erfa_package, frames_of_date
 from ..seen.curves import LIGHT
 from ..seen.vectors import Floats, floats, length
 from ..sky.earth_rotation import EarthRotation
 from ..sky.place import Place
 from .order import J2000_DATE
 from .series import Series
+from .stars import STAR_DISTANCE
 
 AU = 149_597_870.7
 # Each pass leaves a part of v/c of the fault of a place before: the third some decimetres.
@@ -30,10 +31,9 @@ PASSES = 3
 DEFLECTION_LIMIT = 1e-5
 # The Earth's rate of rotation in radians a second (ERFA's `pvtob`).
 ROTATION = 1.00273781191135448 * 2 * np.pi / DAY
-# How far zenith and nadir, and stars, are put in km: only their directions mean something, but the disc about the nadir
+# How far zenith and nadir are put in km: only their directions mean something, but the disc about the nadir
 # covers that of the Moon only where it is nearer.
 ZENITH_DISTANCE = 100_000.0
-STAR_DISTANCE = 1e9
 WGS84 = 1
 AXES = ("equator", "ecliptic", "j2000")
 
@@ -86,6 +86,8 @@ class ApparentSky:
     """Places of bodies from an observer on the Earth or at its centre, by name, at seconds since J2000 (TDB)."""
 
     def __init__(self, series: Series, place: Optional[Place], rotation: Optional[EarthRotation], model: Model) -> None:
+        if place is not None or model.axes != "j2000":
+            check_axes(series.number, "axes='j2000' gives the sky of the Earth's centre on the axes of the source")
         self._series = series
         self._place = place
         self._rotation = rotation

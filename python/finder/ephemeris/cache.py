@@ -21,7 +21,7 @@ from dataclasses import dataclass
 from pathlib import Path
 from typing import Any, Optional
 
-from .sums import sha256_of
+from .sums import SUMS, sha256_of
 
 # What is in the folder of a text besides its files; it is written last.
 ABOUT = "about.json"
@@ -225,6 +225,7 @@ def clear() -> tuple[int, int]:
     home, found = cache_folder(), texts()
     for each in found:
         shutil.rmtree(each.folder, ignore_errors=True)
+    shutil.rmtree(home / SUMS, ignore_errors=True)
     sweep(home)
     return len(found), sum(each.bytes for each in found)
 

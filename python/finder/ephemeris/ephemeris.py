@@ -36,8 +36,10 @@ class Ephemeris:
     <Ephemeris of 2000-04-30T00:00:00 to 2000-07-03T00:00:00 (TDB): mercury, venus, .., sun, earth, ssb>
     """
 
-    def __init__(self, kept: Kept) -> None:
+    def __init__(self, kept: Kept, asked: Optional[tuple[Optional[float], Optional[float]]] = None) -> None:
         self._kept = kept
+        # (one text may be that of several spans)
+        self._asked = asked or tuple(kept.about["asked"])
 
     @classmethod
     def open(
@@ -67,7 +69,8 @@ class Ephemeris:
         """
         from .open import opened
 
-        return cls(opened(source, seconds_of_time(start), seconds_of_time(end), bodies, cache))
+        asked = seconds_of_time(start), seconds_of_time(end)
+        return cls(opened(source, *asked, bodies, cache), asked)
 
     @classmethod
     def fit(
@@ -185,7 +188,7 @@ class Ephemeris:
     @property
     def asked(self) -> tuple[Optional[float], Optional[float]]:
         """The span that was asked for, in seconds of TDB since J2000: None where it is that of the source."""
-        start, end = self._kept.about["asked"]
+        start, end = self._asked
         return start, end
 
     @property

@@ -3,6 +3,7 @@
 from __future__ import annotations
 
 from collections.abc import Callable, Mapping
+from dataclasses import replace
 from typing import Optional, Union
 
 import numpy as np
@@ -27,6 +28,7 @@ from .fitting import (
 )
 from .motions import Motion, Named, motion_of
 from .text import AXES, COLUMNS, MAX_COEFFICIENTS, MAX_NUMBERS, Column, EphemerisText, WrongText, span_text
+from .versions import versions
 
 MAX_BODIES = 11
 # A granule that leaves too much somewhere is halved so many times.
@@ -82,7 +84,7 @@ def _with_tolerance(motion: Named, tolerance: Union[None, float, Mapping[str, fl
         return motion
     if not float(asked) > 0:
         raise ValueError(f"a tolerance is a number of km above 0, and not {asked!r}")
-    return Named(motion.name, motion.places, motion.what, Tolerance(kilometres=float(asked)), motion.is_scalar)
+    return replace(motion, tolerance=Tolerance(kilometres=float(asked)))
 
 
 def assigned(names: list[str]) -> dict[str, str]:
@@ -125,7 +127,7 @@ def _sum(motion: Named, parts: list[tuple[float, Named]]) -> Named:
     def places(times: Floats) -> Floats:
         return np.asarray(sum(weight * places_of(_motions(each), times)[each.name] for weight, each in parts))
 
-    return Named(motion.name, places, motion.what, motion.tolerance)
+    return replace(motion, places=places)
 
 
 def _motions(motion: Named) -> Callable[[Floats], dict[str, Floats]]:
@@ -204,7 +206,8 @@ def _titles(
     named: list[Named], words: Mapping[str, str], text: EphemerisText, errors: Mapping[str, FitError]
 ) -> tuple[str, ...]:
     """The lines of the title."""
-    lines = [f"Motions of {span_text(text.start, text.end)}, fitted by finder."]
+    packages = sorted({package for motion in named for package in motion.packages})
+    lines = [f"Motions of {span_text(text.start, text.end)}, fitted by {versions('numpy', *packages)}."]
     for motion in named:
         word, column = words[motion.name], text.columns.get(words[motion.name], text.columns["emb"])
         hours = text.block / column.granules * 24 / DAY

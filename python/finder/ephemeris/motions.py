@@ -14,16 +14,15 @@ from ..seen.apparent import erfa_package, frames_of_date
 from ..seen.vectors import Floats, floats
 from .fitting import Tolerance
 from .order import J2000_DATE
-from .stars import Star, star_of
+from .stars import STAR_DISTANCE, Star, star_of
 from .text import WrongText, span_text
 
 # A function of seconds since J2000 (TDB), an array of n, that gives km, 3 by n, or n numbers; or what is turned into
 # one.
 Motion = Union[Callable[[Floats], Any], Star, Any]
-# A millimetre, in km, and for directions a microarcsecond; and how far a direction is put, in km.
+# A millimetre, in km, and for directions a microarcsecond.
 MILLIMETRE = Tolerance(kilometres=1e-6)
 MICROARCSECOND = Tolerance(arcseconds=1e-6)
-STAR_DISTANCE = 1e9
 # As many times as no array of three components by as many has its shape by chance.
 TRIED = 5
 # The points of a table through which a polynomial is laid; with velocities half as many.
@@ -40,20 +39,21 @@ class Named:
     what: str
     tolerance: Tolerance = MILLIMETRE
     is_scalar: bool = False
+    packages: tuple[str, ...] = ()
 
 
 def motion_of(name: str, given: Any, start: float, end: float) -> Named:
     """A motion of any usual form, over a span in seconds since J2000 (TDB)."""
     if hasattr(given, "sgp4_array"):
-        return Named(
-            name, satellite(name, given), f"satellite {given.satnum} by SGP4 from the Earth's centre, axes of the GCRS"
-        )
+        what = f"satellite {given.satnum} by SGP4 from the Earth's centre, axes of the GCRS"
+        return Named(name, satellite(name, given), what, packages=("sgp4", "pyerfa"))
     if hasattr(given, "at") and hasattr(given, "center"):
-        return Named(name, _of_skyfield(given), f"Skyfield's {given}".replace("\n", " "))
+        what = f"Skyfield's {given}".replace("\n", " ")
+        return Named(name, _of_skyfield(given), what, packages=("skyfield",))
     if isinstance(given, Star) or hasattr(given, "icrs") or hasattr(given, "ra_mas_per_year"):
         star = star_of(given, name)
         what = f"{star}, as it is from the barycentre of the solar system, at {STAR_DISTANCE:g} km"
-        return Named(name, lambda times: star.direction(times, np.zeros((3, 1))) * STAR_DISTANCE, what, MICROARCSECOND)
+        return Named(name, star.place, what, MICROARCSECOND, packages=("pyerfa",))
     if isinstance(given, tuple) and len(given) in (2, 3) and np.ndim(given[0]) == 1:
         return Named(name, Table.of(name, *given).within(name, start, end), f"a table of {len(given[0])} places")
     if not callable(given):

@@ -7,6 +7,8 @@ from collections.abc import Mapping, Sequence
 from dataclasses import dataclass, field
 from typing import Any, Optional, Protocol, runtime_checkable
 
+from ..reports.calendar import time_text
+from ..searches.bodies import body_word, frame_word
 from .names import Files, HasFiles, file_names
 
 BODIES = ("target", "second", "observer")
@@ -79,7 +81,7 @@ def words_of_request(files: Files, words: Mapping[str, Any]) -> dict[str, Any]:
     for role in BODIES:
         if made.get(role) is not None:
             made[role] = _word(files.names, made[role])
-    if made.get("frame") is not None and made["frame"] not in files.frames:
+    if made.get("frame") is not None and frame_word(made["frame"]) not in files.frames:
         raise ValueError(
             f"the places of this text stand on the axes of date, on which frame={made['frame']!r} means nothing: leave "
             "frame= out, and make the sky with axes='ecliptic' for longitudes of the ecliptic of date"
@@ -91,21 +93,20 @@ def words_of_request(files: Files, words: Mapping[str, Any]) -> dict[str, Any]:
 
 
 def _word(names: Mapping[str, str], body: Any) -> Any:
-    """The program's word for a name; what is no text is left to the search."""
-    if not isinstance(body, str) or body in names:
-        return names.get(body, body)
-    lower = {name.lower(): word for name, word in names.items()}
-    if body.lower() in lower:
-        return lower[body.lower()]
-    near = difflib.get_close_matches(body.lower(), list(lower), 1)
+    """The program's word for a name, in any case, or for a body as other packages name it."""
+    small = {name.lower(): word for name, word in names.items()}
+    if isinstance(body, str) and (body in names or body.lower() in small):
+        return names.get(body, small.get(body.lower()))
+    word = body_word(body)
+    if word in names:
+        return names[word]
+    near = difflib.get_close_matches(str(body).lower(), list(small), 1)
     hint = f"did you mean {near[0]!r}? There " if near else "there "
     raise ValueError(f"no body of this ephemeris is {body!r}: {hint}are {', '.join(names)}")
 
 
 def _time(seconds: float, up: bool) -> str:
     """A time as a text of TDB to the millisecond."""
-    from ..reports.calendar import time_text
-
     milliseconds = seconds * 1_000
     return time_text(int(-(-milliseconds // 1)) if up else int(milliseconds // 1), 1_000)
 

@@ -84,7 +84,9 @@ def _texts_of(folder: str) -> list[str]:
     if not found:
         raise WrongFiles(f"the folder {folder} has no text of a DE series, as header.405 and ascp2000.405")
     if len(heads) > 1:
-        raise WrongFiles(f"the folder {folder} has {len(heads)} headers, {heads[0]} and others: name files of one series")
+        raise WrongFiles(
+            f"the folder {folder} has {len(heads)} headers, {heads[0]} and others: name files of one series"
+        )
     return list(found)
 
 

@@ -15,6 +15,7 @@ from .sources import Form, SourceFile, WrongSource, source_files
 from .spk_text import Bodies
 from .sums import sha256_of
 from .text import EphemerisText, span_text
+from .versions import versions
 
 Made = tuple[Iterable[bytes], dict[str, Any]]
 # A number that is changed where the same sources give another text.
@@ -38,7 +39,8 @@ def opened(source: Any, start: Optional[float], end: Optional[float], bodies: Bo
         )
     if files[0].form is Form.ASCII:
         return _of_ascii(files, start, end, cache)
-    facts = [files[0].form.name, VERSION, [[file.sha256, file.last_name] for file in files], start, end, _shown(bodies)]
+    sums = [[file.sha256, file.last_name] for file in files]
+    facts = [*_versions(files), sums, start, end, _shown(bodies)]
     making = _of_binary if files[0].form is Form.BINARY else _of_kernels
     return kept(key_of(facts), lambda: making(files, start, end, bodies), cache)
 
@@ -61,7 +63,14 @@ def with_margin(start: Optional[float], end: Optional[float]) -> tuple[Optional[
 def source_titles(files: list[SourceFile], start: float, end: float) -> tuple[str, ...]:
     """The lines of a title that name the files of a source."""
     lines = [f"{file.last_name}, SHA-256 {file.sha256}" for file in files]
-    return (f"Blocks of {span_text(start, end)} of {files[0].form.value}, written by finder, of", *lines)
+    form, _, by = _versions(files)
+    return (f"Blocks of {span_text(start, end)} of {form}, written by {by}, of", *lines)
+
+
+def _versions(files: list[SourceFile]) -> tuple[str, int, str]:
+    """What a source is, and what its text is made by: parts of a title and of a key."""
+    form = files[0].form
+    return form.value, VERSION, versions("numpy", *(["jplephem"] if form is Form.SPK else []))
 
 
 def _shown(bodies: Bodies) -> Any:
@@ -128,7 +137,7 @@ def _of_ascii(files: list[SourceFile], start: Optional[float], end: Optional[flo
         return part.files(titles[len(whole.titles) :]), {**about, "titles": list(titles)}
 
     sums = sorted((file.sha256, file.last_name) for file in files)
-    return kept(key_of(["ASCII", VERSION, sums, part.start, part.end]), make, cache)
+    return kept(key_of([*_versions(files), sums, part.start, part.end]), make, cache)
 
 
 def _as_they_are(whole: ascii_de.AsciiSource, part: ascii_de.AsciiSource, files: list[SourceFile]) -> tuple[str, ...]:

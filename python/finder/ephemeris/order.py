@@ -177,6 +177,11 @@ def _refuse_late_header(names: Sequence[str]) -> None:
         )
 
 
+def seconds_of_date(date: float) -> int:
+    """The whole seconds since J2000 (TDB) that are nearest to a Julian date."""
+    return round((date - J2000_DATE) * DAY)
+
+
 def _day(date: float) -> str:
     """A Julian date as a day, or a day and a time."""
-    return time_text(round((date - J2000_DATE) * DAY)).removesuffix("T00:00:00")
+    return time_text(seconds_of_date(date)).removesuffix("T00:00:00")

@@ -66,6 +66,8 @@ class Series:
         table = np.array([int(word) for word in words[first : words.index(b"GROUP", first)]]).reshape(3, -1)
         self._columns = table[:, :13]
         self._mass_ratio = number_of(values[names.index(b"EMRAT")].decode())
+        #: The number of JPL's series, as 405, or None where the header has none.
+        self.number = round(number_of(values[names.index(b"DENUM")].decode())) if b"DENUM" in names else None
 
     def _table(self, name: str) -> tuple[Floats, Floats]:
         """The series of a column, and those of its rates in km/s: by coefficient, axis and granule."""

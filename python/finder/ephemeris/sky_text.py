@@ -16,7 +16,7 @@ from ..seen.vectors import Floats
 from ..sky.earth_rotation import EarthRotation, earth_rotation
 from ..sky.place import Place, PlaceLike
 from . import writing
-from .apparent_places import STAR_DISTANCE, ZENITH_DISTANCE, ApparentSky, Model
+from .apparent_places import ZENITH_DISTANCE, ApparentSky, Model
 from .cache import kept, key_of
 from .chebyshev import Grid
 from .columns import columns_of, words_of
@@ -33,8 +33,9 @@ from .fitting import (
     times_of_check,
 )
 from .series import Series
-from .stars import Star, star_of
+from .stars import STAR_DISTANCE, Star, star_of
 from .text import DATE_STEP, EphemerisText, WrongText, span_text
+from .versions import versions
 
 # A granule of a place is a day, in which the Earth turns once: 18 coefficients leave 10^-7 arc seconds of the zenith.
 # The most coefficients, to what a series is fitted, and the largest error that is let through.
@@ -52,13 +53,22 @@ MAX_BODIES = 10
 # Within so many degrees of the Sun's centre a body beyond it is compared at so many times a day.
 NEAR_SUN = 2.5
 TIMES_NEAR_SUN = 96
+# A number that is changed where the same sources give another text.
+VERSION = 1
+PACKAGES = ("numpy", "pyerfa")
 Made = TypeVar("Made", bound="SkyText")
 
 
+@public
 @dataclass(frozen=True)
 class Edge:
     """A span in which the motion of a body has an edge that its series does not follow: light that passes the Sun
-    within its disc. `start` and `end` in seconds since J2000 (TDB), and the largest error in arc seconds."""
+    within its disc. `start` and `end` in seconds since J2000 (TDB), and the largest error in arc seconds.
+
+    >>> sky = Ephemeris.open("examples/de405-2000.asc").sky(None, "2000-05-01", "2000-06-01")
+    >>> [(edge.body, edge.arcseconds < 1) for edge in sky.edges]
+    [('mercury', True)]
+    """
 
     body: str
     start: float
@@ -216,7 +226,7 @@ class _Making:
         stars = {name: asdict(star) for name, star in self.stars.items()}
         facts = [self.source.sha256, self._place(), self._sentence(), asdict(self.model), self.bodies, stars]
         distances = [ZENITH_DISTANCE, STAR_DISTANCE]
-        return key_of(["sky", *versions(), *facts, turns, asdict(self.asked), distances])
+        return key_of(["sky", VERSION, versions(*PACKAGES), *facts, turns, asdict(self.asked), distances])
 
     def _place(self) -> Optional[list[float]]:
         return None if self.place is None else [self.place.latitude, self.place.longitude, self.place.metres]
@@ -315,18 +325,11 @@ class _Making:
             *self.source.titles,
             *([f"Names: {columns}."] if columns else []),
             f"Zenith and nadir are at {ZENITH_DISTANCE:g} km, stars at {STAR_DISTANCE:g} km.",
-            f"Versions: {', '.join(' '.join(map(str, each)) for each in versions())}.",
+            f"Versions: {versions(*PACKAGES)}.",
             *(f"Fit of {name}: {error}." for name, error in errors.items()),
             *(f"Edge: {edge}." for edge in edges),
         ]
         return tuple(lines)
-
-
-def versions() -> list[list[str]]:
-    """The names and versions of what a sky is made by."""
-    from .. import __version__
-
-    return [["finder", __version__], ["erfa", str(erfa_package().__version__)]]
 
 
 def _near_sun(sky: ApparentSky, name: str, stars: Mapping[str, Any], grid: Grid) -> Any:

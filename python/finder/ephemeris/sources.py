@@ -7,7 +7,6 @@ import contextlib
 import enum
 import glob
 import gzip
-import hashlib
 import lzma
 import mmap
 import os
@@ -17,6 +16,10 @@ from collections.abc import Iterable
 from dataclasses import dataclass
 from pathlib import Path
 from typing import Any, Optional, Union
+
+from ..public import public
+from .cache import cache_folder
+from .sums import sha256_of_source
 
 # What is told of a file by its first bytes.
 HEADER = re.compile(rb"[ \t]*KSIZE=")
@@ -38,6 +41,7 @@ class Form(enum.Enum):
     SPK = "an SPK kernel"
 
 
+@public
 class WrongSource(ValueError):
     """A source that cannot be read: the file is named, what it is, and what to do."""
 
@@ -146,7 +150,7 @@ def _known_forms() -> str:
 def _read(name: str) -> SourceFile:
     """A file, whose bytes are mapped where it is not compressed."""
     data = _mapped(name)
-    sha256 = hashlib.sha256(data).hexdigest()
+    sha256 = sha256_of_source(name, data, cache_folder())
     plain: Union[bytes, mmap.mmap] = data
     for begin, compression in COMPRESSED.items():
         if data[: len(begin)] == begin:

@@ -4,6 +4,7 @@ body to the barycentre of the solar system, and places by them."""
 from __future__ import annotations
 
 import io
+import itertools
 from collections.abc import Iterable
 from dataclasses import dataclass, field
 from typing import Any, Optional
@@ -36,6 +37,8 @@ BARYCENTRE = 0
 COPIED_TYPES = (2, 3)
 # The frames whose axes are known here: those of J2000, and the ecliptic of J2000.
 EQUATOR, ECLIPTIC = 1, 17
+# At so many times two files are compared that have one body, and so near they are of one series, in km.
+COMPARED, SAME = 8, 1e-3
 
 
 @dataclass(frozen=True)
@@ -74,6 +77,7 @@ class Kernels:
     files: list[SourceFile]
     segments: dict[tuple[int, int], list[Any]] = field(default_factory=dict)
     opened: list[Any] = field(default_factory=list)
+    file_of: dict[int, str] = field(default_factory=dict)
 
     @classmethod
     def of(cls, files: list[SourceFile]) -> Kernels:
@@ -88,6 +92,7 @@ class Kernels:
                         f"{file.name} has places of {segment.target} on the axes of the frame {segment.frame}: those "
                         "of J2000 (1) and of its ecliptic (17) are read"
                     )
+                made.file_of[id(segment)] = file.name
                 made.segments.setdefault((segment.target, segment.center), []).append(segment)
         return made
 
@@ -100,6 +105,22 @@ class Kernels:
     def names(self) -> str:
         """The files, for a sentence."""
         return ", ".join(file.name for file in self.files)
+
+    def refuse_two_series(self) -> None:
+        """Refuses two files that have different places of one body from one centre."""
+        for (target, center), segments in self.segments.items():
+            for one, other in itertools.combinations(segments, 2):
+                names = self.file_of[id(one)], self.file_of[id(other)]
+                start, end = max(one.start_second, other.start_second), min(one.end_second, other.end_second)
+                if names[0] == names[1] or start >= end:
+                    continue
+                times = np.linspace(start, end, COMPARED + 2)[1:-1]
+                away = np.abs(self._evaluated(one, times) - self._evaluated(other, times)).max()
+                if away > SAME:
+                    raise WrongSource(
+                        f"{names[0]} and {names[1]} have other places of {target} from {center}, by {away:.3g} km: they are "
+                        "of two series, so name kernels of one; with bodies= the later file counts"
+                    )
 
     def path(self, target: int) -> Optional[list[tuple[int, int]]]:
         """The pairs of target and centre that lead from a body to the barycentre, or None where none do."""

@@ -138,6 +138,8 @@ def read(
 
 def _read(kernels: Kernels, start: Optional[float], end: Optional[float], margin: float, bodies: Bodies) -> KernelText:
     """What `read` does, of kernels that are open."""
+    if bodies is None:
+        kernels.refuse_two_series()
     wanted, names, mass_ratio = _wanted(kernels, bodies)
     low, high = max(each.start for each in wanted.values()), min(each.end for each in wanted.values())
     least = max(wanted.values(), key=lambda each: each.start), min(wanted.values(), key=lambda each: each.end)

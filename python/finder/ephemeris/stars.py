@@ -16,6 +16,8 @@ from .order import J2000_DATE
 AU = 149_597_870.7
 JULIAN_YEAR = 365.25 * DAY
 MILLIARCSECONDS = 3_600_000.0
+# How far a star is put in km: only its direction means something.
+STAR_DISTANCE = 1e9
 
 
 @public
@@ -56,6 +58,10 @@ class Star:
         north = np.radians(self.pm_dec / MILLIARCSECONDS)
         made = erfa.pmpx(ra, dec, along, north, self.parallax / 1_000, self.radial_velocity, years, spot.T)
         return floats(made.T)
+
+    def place(self, times: Any) -> Floats:
+        """Its place at 10^9 km from the barycentre of the solar system, in its direction from there, in km, 3 by n."""
+        return self.direction(times, np.zeros((3, 1))) * STAR_DISTANCE
 
 
 def star_of(star: Any, name: str = "a star") -> Star:

@@ -7,6 +7,7 @@ from dataclasses import dataclass, field, replace
 
 import numpy as np
 
+from ..public import public
 from ..reports.calendar import DAY, time_text as calendar_text
 from ..seen.vectors import Floats
 
@@ -28,6 +29,7 @@ FIRST_SECOND = -2_451_545 * DAY
 LAST_SECOND = (5_000_000 - 2_451_545) * DAY
 
 
+@public
 class WrongText(ValueError):
     """A motion that the format cannot hold: the body or the span is named, and what to do."""
 

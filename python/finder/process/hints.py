@@ -2,9 +2,17 @@
 
 from __future__ import annotations
 
+import re
+from collections.abc import Sequence
 from typing import Optional
 
+from ..ephemeris.order import content_of
+from ..reports.calendar import time_text
+from ..searches.kinds import COVERS, kinds_with, listed
+
 Causes = tuple[str, ...]
+SPAN = re.compile(r"finder: span: (-?[0-9]+) (-?[0-9]+) not within (-?[0-9]+) (-?[0-9]+)")
+FIRST_LINE = re.compile(r"finder: file (.*) line [0-9]+: 10 FirstLine", re.DOTALL)
 AGAIN = "the file was changed, or cut off while it was fetched: fetch it again"
 NOT_JPL = "it is no ASCII file of JPL's: a binary or a compressed one, or a page that was saved in its place"
 HEADER: Causes = (AGAIN, "it is of a layout that is not read: docs/FORMATS.md has those that are")
@@ -56,15 +64,16 @@ OF_NUMBER: dict[int, Causes] = {
 # By the option of a value that is refused: what Python has for it, and its form.
 OF_OPTION = {
     "target": "target= is a body, as 'moon'",
-    "second": "second= is a body, and the kinds conj, oppo, sep, sepext, any, full and annular alone need one",
+    "second": f"second= is a body, and the kinds {listed(kinds_with('second'))} alone need one",
     "observer": "observer= is a body or 'ssb'",
-    "frame": "frame= is 'eq' or 'ecl', and the kinds coord, conj, oppo and station alone have one",
-    "axis": "axis= is 'x', 'y' or 'z', and the kind coord alone needs one",
-    "ref": "ref= is a decimal of at most 18 digits (km; of sep a cosine), for the kinds coord, radius and sep alone",
+    "frame": f"frame= is 'eq' or 'ecl', and the kinds {listed(kinds_with('frame'))} alone have one",
+    "axis": f"axis= is 'x', 'y' or 'z', and the kind {listed(kinds_with('axis'))} alone needs one",
+    "ref": "ref= is a decimal of at most 18 digits (km; of sep a cosine), for the kinds "
+    f"{listed(kinds_with('ref'))} alone",
     "ref2": "ref2= is a decimal of at most 18 digits above ref=, for the relations within and outside alone",
     "relation": "relation= is 'less', 'atleast', 'within' or 'outside'",
-    "radius1": "radii= is a pair of decimals in km, and the kinds any, full and annular alone need one",
-    "radius2": "radii= is a pair of decimals in km, and the kinds any, full and annular alone need one",
+    "radius1": f"radii= is a pair of decimals in km, and the kinds {listed(COVERS)} alone need one",
+    "radius2": f"radii= is a pair of decimals in km, and the kinds {listed(COVERS)} alone need one",
     "from": "start= is a time: 2000-05-01T00:00:00 with a year of four digits, or at most 12 digits of seconds",
     "to": "end= is a time: 2000-05-01T00:00:00 with a year of four digits, or at most 12 digits of seconds",
     "tick": "tick= is 1 (seconds) or 1000 (milliseconds)",
@@ -100,6 +109,36 @@ TOO_LONG: Causes = (
     "the function stays near 0 for long: a greater width= ends the search",
     "the machine is busy",
 )
+
+
+def causes_seen(status: int, number: Optional[int], line: str, words: Sequence[str]) -> Causes:
+    """What the package sees itself of a refusal, by its line and by the words of the command; nothing for others."""
+    options = dict(word[2:].split("=", 1) for word in words if word.startswith("--") and "=" in word)
+    span, fault = SPAN.fullmatch(line), FIRST_LINE.fullmatch(line)
+    if status == 6 and span:
+        tick = 1_000 if options.get("tick") == "1000" else 1
+        return (_of_span([int(ticks) for ticks in span.groups()], tick, {"from", "to"} <= set(options)),)
+    if number == 51:
+        bodies = {role: options[role] for role in ("target", "second", "observer") if role in options}
+        same = [role for role, body in bodies.items() if list(bodies.values()).count(body) > 1]
+        return (f"{listed(tuple(f'{role}=' for role in same))} are one body, {bodies[same[0]]!r}",) if same else ()
+    if fault:
+        content = content_of(fault[1])
+        if content is not None and not content.has_header:
+            told_name = "name the header's file too, as ['header.405', 'ascp2000.405']"
+            return (f"{fault[1]} has blocks and no header: {told_name}",)
+    return ()
+
+
+def _of_span(ticks: Sequence[int], tick: int, has_both: bool) -> str:
+    """What is wrong with a span, in dates; both of its ends are named, or one of them."""
+    start, end, low, high = (time_text(each, tick) for each in ticks)
+    if ticks[0] >= ticks[1] and has_both:
+        return f"start={start} is not before end={end} (TDB)"
+    return (
+        f"the span from {start} to {end} is not within that of the files, from {low} to {high} (TDB): name the file "
+        "with these years, or a span within"
+    )
 
 
 def causes_of(status: int, number: Optional[int], detail: Optional[str]) -> Causes:

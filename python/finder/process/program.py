@@ -3,8 +3,10 @@
 from __future__ import annotations
 
 import concurrent.futures
+import logging
 import os
 import re
+import shlex
 import signal
 import subprocess
 import threading
@@ -16,9 +18,11 @@ from typing import Optional, Union
 from .. import spans
 from ..public import public
 from ..searches.words import seconds
-from .hints import TOO_LONG, causes_of, told
+from .hints import TOO_LONG, causes_of, causes_seen, told
 from .watch import watch
 
+# What each run of the program is told to: its words, its status and its time.
+LOG = logging.getLogger("finder")
 # Seconds after which a wait begins anew: an interrupt that comes just before a wait begins is seen only when it ends.
 WAIT = 0.2
 NUMBERED = re.compile(r"(?:^|: )([0-9]+) ([A-Z][A-Za-z]*)(?: (\S+))?$")
@@ -27,19 +31,29 @@ FAULT = re.compile(r"finder: file (.*) line ([0-9]+): [0-9]+ [A-Za-z]+(?: \S+)?"
 
 @public
 class FinderError(Exception):
-    """The command ended without a report: `status` is its exit status, `line` what it wrote to standard error."""
+    """The command ended without a report: `status` is its exit status, `line` what it wrote to standard error, `words`
+    those with which it was called, and `hint` the likely causes.
 
-    def __init__(self, status: int, line: str) -> None:
+    >>> import finder
+    >>> try:
+    ...     finder.apsides("examples/de405-2000.asc", "moon", "2010", "2011", observer="earth")
+    ... except finder.FinderError as error:
+    ...     print(error.status, error.line)
+    6 finder: span: 315576000 347112000 not within -734400 32443200
+    """
+
+    def __init__(self, status: int, line: str, words: Sequence[str] = ()) -> None:
         # (an OSError takes the first of two words for a number of the system, which a status is not)
         super().__init__(line)
         self.status = status
         self.line = line
+        self.words = tuple(words)
 
-    def __reduce__(self) -> tuple[type[FinderError], tuple[int, str]]:
-        return type(self), (self.status, self.line)
+    def __reduce__(self) -> tuple[type[FinderError], tuple[int, str, tuple[str, ...]]]:
+        return type(self), (self.status, self.line, self.words)
 
     def __str__(self) -> str:
-        return self.line or f"the command ended with status {self.status}"
+        return f"{self.line or f'the command ended with status {self.status}'}\nlikely: {self.hint}"
 
     @property
     def number(self) -> Optional[int]:
@@ -61,8 +75,9 @@ class FinderError(Exception):
 
     @property
     def hint(self) -> str:
-        """The likely causes, the likeliest first, and what to write instead."""
-        return told(causes_of(self.status, self.number, self.detail))
+        """What the package sees to be wrong, or the likely causes, the likeliest first, and what to write instead."""
+        seen = causes_seen(self.status, self.number, self.line, self.words)
+        return told(seen or causes_of(self.status, self.number, self.detail))
 
 
 @public
@@ -143,6 +158,10 @@ class TimedOut(FinderError, TimeoutError):
         return told(TOO_LONG)
 
 
+class OverBudget(Exception):
+    """A run of the program took longer than its budget, and was ended: what it would have said is not known."""
+
+
 OF_STATUS: dict[int, type[FinderError]] = {
     2: WordsRefused,
     3: FileFault,
@@ -206,30 +225,35 @@ class Runs:
             self._live.add(process)
             begun.processes.append(process)
 
-    def run(self, words: Sequence[Union[str, bytes]]) -> str:
-        """What the command prints for these words."""
-        begun = _Begun()
+    def run(self, words: Sequence[Union[str, bytes]], budget: Optional[float] = None) -> str:
+        """What the command prints for these words: `OverBudget` where it takes more than so many seconds."""
+        begun, began = _Begun(), time.monotonic()
         try:
             # (an interrupt comes to the main thread alone, and so not between a process and its record)
             with concurrent.futures.ThreadPoolExecutor(1) as pool:
                 pool.submit(self._start, words, begun).result()
-            out, err = self._output(begun.processes[0])
+            out, err = self._output(begun.processes[0], began, budget)
         finally:
             # (where the interrupt comes while the thread starts, nothing has waited for what that one starts)
             with self._lock:
                 begun.is_over = True
             for process in begun.processes:
                 self._finish(process)
-        return _answer(begun.processes[0].returncode, out, err)
+        status = begun.processes[0].returncode
+        LOG.info("%s: status %d, %.3f seconds", shlex.join(map(os.fsdecode, words)), status, time.monotonic() - began)
+        return _answer(status, out, err, [os.fsdecode(word) for word in words])
 
-    def _output(self, process: subprocess.Popen[bytes]) -> tuple[bytes, bytes]:
+    def _output(
+        self, process: subprocess.Popen[bytes], began: float, budget: Optional[float]
+    ) -> tuple[bytes, bytes]:
         """What the command wrote to both outputs until it ended."""
         while self._deadline is None or time.monotonic() < self._deadline:
             left = WAIT if self._deadline is None else min(WAIT, max(0.0, self._deadline - time.monotonic()))
             try:
                 return process.communicate(timeout=left)
             except subprocess.TimeoutExpired:
-                pass
+                if budget is not None and time.monotonic() > began + budget:
+                    raise OverBudget from None
         raise TimedOut(-signal.SIGKILL, f"finder: not done after {self._timeout} seconds")
 
     def _finish(self, process: subprocess.Popen[bytes]) -> None:
@@ -253,15 +277,15 @@ class Runs:
 Program = Union[str, os.PathLike[str], Runs, None]
 
 
-def _answer(status: int, out: bytes, err: bytes) -> str:
+def _answer(status: int, out: bytes, err: bytes, words: Sequence[str]) -> str:
     """What the command printed, or the exception of its status."""
     if status:
         line = os.fsdecode(err).removesuffix("\n")
         if status == 70 or status in (126, 127):
             raise spans.NoProgram(line or f"status {status}")
         if status < 0:
-            raise Interrupted(status, line)
-        raise OF_STATUS.get(status, FinderError)(status, line)
+            raise Interrupted(status, line, words)
+        raise OF_STATUS.get(status, FinderError)(status, line, words)
     try:
         return out.decode("ascii")
     except UnicodeDecodeError:

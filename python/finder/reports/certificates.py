@@ -8,7 +8,7 @@ import tempfile
 from collections.abc import Mapping
 from dataclasses import dataclass, field, replace
 from pathlib import Path
-from typing import TYPE_CHECKING, Optional, Union
+from typing import Optional, Union
 
 from .. import spans
 from ..ephemeris.named import HasNames, bodies_of, names_of
@@ -16,18 +16,11 @@ from ..ephemeris.names import Files, some_names
 from ..ephemeris.sums import sha256_of
 from ..process.program import Program, runs_of
 from ..public import public
-from ..searches.search import Body, Kind, Wanted, is_answer, options_of, run
-from ..searches.words import known
+from ..searches.kinds import KINDS, Kind
+from ..searches.options import Body, Unpack, Wanted, searches
+from ..searches.search import answer, options_of
+from ..searches.times import Time
 from .windows import Windows
-
-if TYPE_CHECKING:
-    from typing_extensions import Unpack
-else:
-    from ..searches.search import Unpack
-
-# The options of the command for a request, by the number of values that its kind has.
-VALUES = {"coord": ("ref",), "radius": ("ref",), "sep": ("ref",)}
-RADII = ("radius1", "radius2")
 
 
 @public
@@ -138,15 +131,26 @@ class Verified:
 
 
 @public
+@searches(Wanted)
 def certificate(
-    files: Files, kind: Kind, target: Body, second: Optional[Body] = None, **wanted: Unpack[Wanted]
+    files: Files,
+    kind: Kind,
+    target: Body,
+    second: Optional[Body] = None,
+    start: Optional[Time] = None,
+    end: Optional[Time] = None,
+    **wanted: Unpack[Wanted],
 ) -> Certificate:
-    """The certificate of a search, which takes what `find` takes."""
-    known("certificate", wanted, Wanted.__optional_keys__)
-    options = options_of(files, kind, target, second, **wanted)
-    made = Certificate.of_text(run("cert", options, files, wanted.get("program"), wanted.get("timeout")))
-    if not is_answer(made.report, options):
-        raise spans.WrongReport(f"a certificate of another request: {made.request}")
+    """The certificate of a search, which takes what `find` takes.
+
+    >>> import finder
+    >>> made = finder.certificate("examples/de405-2000.asc", "apsis", "earth", end="2000-08-01", observer="sun")
+    >>> finder.verify("examples/de405-2000.asc", made).windows.datetime64()
+    array(['2000-01-03T05:18:44', '2000-07-03T23:49:58'],
+          dtype='datetime64[s]')
+    """
+    options = options_of(files, kind, target, second, start=start, end=end, **wanted)
+    made = Certificate(answer("cert", options, files, dict(wanted), spans.CertificateText))
     if isinstance(files, HasNames):
         made = replace(made, names=names_of(files), sha256=files.sha256, _texts=tuple(files.files))
     return made
@@ -166,6 +170,12 @@ def verify(
 
     What it is of, it says itself: read the `request` of the windows, and whether one of them is undecided; or name the
     request that it has to be of, with its span, as `Certificate.request` has it.
+
+    >>> import finder
+    >>> year = "examples/de405-2000.asc"
+    >>> found = finder.verify(year, finder.certificate(year, "apsis", "earth", observer="sun"))
+    >>> len(found.windows), found.leaves
+    (3, 266)
     """
     made = certificate if isinstance(certificate, Certificate) else Certificate.load(certificate)
     if request is not None and request != made.request:
@@ -183,11 +193,12 @@ def verify(
 
 
 def request_options(report: spans.CertificateText) -> dict[str, str]:
-    """The options of the command for the request of a certificate."""
+    """The options of the program for the request of a certificate."""
     asked = dict(report.asked)
     values = asked.pop("values").split(",")
-    names = VALUES.get(asked["kind"], RADII if len(values) == 2 else ())
-    if asked["kind"] not in ("coord", "conj", "oppo", "station"):
+    row = KINDS[asked["kind"]]
+    names = [name for name in ("ref", "radius1", "radius2") if name in row.options()]
+    if not row.frame:
         del asked["frame"]
     start, end = report.span.split(" ")
     options = {name: word for name, word in asked.items() if word != "-"}

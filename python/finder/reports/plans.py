@@ -5,8 +5,12 @@ from __future__ import annotations
 from collections.abc import Sequence
 from typing import Optional
 
+from .calendar import DAY
 from .joining import WrongParts
 from .report import Summary
+
+# The milliseconds of a part of a search for bodies that almost cancel: of much longer ones no bound tells their signs.
+YEAR = 365 * DAY * 1_000
 
 
 def cut(count: int, summary: Summary, start: Optional[int] = None, end: Optional[int] = None) -> list[tuple[int, int]]:
@@ -23,6 +27,14 @@ def cut(count: int, summary: Summary, start: Optional[int] = None, end: Optional
     numbers = [first - 1 + (inside + 1) * part // parts for part in range(1, parts)]
     ends = [low, *((summary.start + summary.block * number) * 1_000 for number in numbers), high]
     return list(zip(ends, ends[1:]))
+
+
+def count_of_years(summary: Summary, start: Optional[int] = None, end: Optional[int] = None) -> int:
+    """How many parts of at most a year a span has, in milliseconds since J2000; it is that of the files where it is not
+    given."""
+    low = summary.start * 1_000 if start is None else start
+    high = summary.end * 1_000 if end is None else end
+    return max(1, -(-(high - low) // YEAR))
 
 
 def spans_of_files(

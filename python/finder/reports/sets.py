@@ -3,16 +3,18 @@
 from __future__ import annotations
 
 import datetime
-from collections.abc import Iterator, Sequence
+from collections.abc import Iterator, Mapping, Sequence
 from typing import Any, NamedTuple, Optional, Union, overload
 
 import numpy as np
 import numpy.typing as npt
 
 from .. import spans
+from ..ephemeris.named import bodies_of
 from ..public import public
 from ..searches.times import Time, seconds_of_length, ticks_of_time
-from .ends import Ends
+from .ends import End, Ends
+from .table import SHOWN, frame_of, html_of, times_of
 
 
 @public
@@ -78,26 +80,31 @@ class Spans(Ends, Sequence[Span]):
         return hash(self._key())
 
     def __repr__(self) -> str:
-        return f"<Spans: {', '.join(self._lines('')) or 'none'}>"
+        more = f", and {len(self) - SHOWN} more" if len(self) > SHOWN else ""
+        return f"<Spans: {', '.join(self[:SHOWN]._lines('')) or 'none'}{more}>"
 
     def to_pandas(self) -> Any:
-        """A `DataFrame` of pandas: first and last ticks, and the times on the calendar of TDB as texts."""
-        import pandas
+        """A `DataFrame` of pandas: `first` and `last`, times of TDB, and both in milliseconds since J2000.
 
-        return pandas.DataFrame(
-            {
-                "first": self.first,
-                "last": self.last,
-                "first_tdb": self._texts("first"),
-                "last_tdb": self._texts("last"),
-            }
-        )
+        >>> import finder
+        >>> back = finder.retrograde("examples/de405-2000.asc", "mercury", observer="earth", frame="ecl")
+        >>> print(back.sure[:1].to_pandas().to_string(index=False))
+                      first                last   first_ms    last_ms
+        2000-02-21 12:41:03 2000-03-14 20:35:20 4408863000 6338120000
+        """
+        return frame_of(times_of(self.first, self.last, self.tick), {})
 
     def to_table(self) -> Any:
-        """A `Table` of astropy: the first and the last times."""
+        """A `Table` of astropy with the columns of `to_pandas`, in which `first` and `last` are `Time`s of scale TDB."""
         from astropy.table import Table
 
-        return Table({"first": self.time("first"), "last": self.time("last")})
+        columns = times_of(self.first, self.last, self.tick)
+        return Table({**columns, "first": self.time("first"), "last": self.time("last")})
+
+    def _repr_html_(self) -> str:
+        """The first spans as a table, for a notebook."""
+        columns = times_of(self.first, self.last, self.tick)
+        return html_of({name: columns[name] for name in ("first", "last")}, f"{len(self)} spans (TDB)")
 
     def total(self) -> datetime.timedelta:
         """How long the spans last together, each from its first tick to its last one, to the microsecond.
@@ -180,6 +187,7 @@ class TimeSet:
         self.possible = possible
         self.made_of = tuple(dict.fromkeys(made_of))
         self.request = request
+        self.names: Mapping[str, str] = {}
 
     @classmethod
     def of_text(cls, text: str) -> TimeSet:
@@ -229,6 +237,11 @@ class TimeSet:
         """The words of the request by their names, with each option at its value or default; of a set that is made of
         others, none."""
         return {} if self.request is None else spans.words_of(self.request, spans.SET_REQUEST)
+
+    @property
+    def bodies(self) -> dict[str, str]:
+        """Target, second body and observer of the request, by the names of the `Ephemeris` that was searched."""
+        return bodies_of(self.asked, self.names)
 
     def __and__(self, other: TimeSet) -> TimeSet:
         if not isinstance(other, TimeSet):
@@ -295,6 +308,52 @@ class TimeSet:
 
     def __hash__(self) -> int:
         return hash(self._key())
+
+    def __len__(self) -> int:
+        """How many possible spans there are; `sure` and `possible` have lengths of their own."""
+        return len(self.possible)
+
+    def __iter__(self) -> Iterator[Span]:
+        """The possible spans, in order."""
+        return iter(self.possible)
+
+    def __contains__(self, time: object) -> bool:
+        raise TypeError("a time may be sure, or possible alone: ask `time in found.sure` or `time in found.possible`")
+
+    def columns(self) -> dict[str, Any]:
+        """A row for each sure and for each possible span, as arrays: `kind`, `target`, `second` (None in a set that is
+        made of others), `certain`, whether it is one of the sure ones, `first` and `last` (TDB), and both in milliseconds
+        since J2000."""
+        asked = self.asked
+        words = {name: asked.get(name) for name in ("kind", "target", "second")}
+        first, last = (np.concatenate([getattr(rows, end) for rows in self._both()]) for end in ("first", "last"))
+        sure = np.arange(len(first)) < len(self.sure)
+        rows = {name: np.array([None if word == "-" else word] * len(first), dtype=object) for name, word in words.items()}
+        return {**rows, "certain": sure, **times_of(first, last, self.tick)}
+
+    def _both(self) -> tuple[Spans, Spans]:
+        return self.sure, self.possible
+
+    def to_pandas(self) -> Any:
+        """A `DataFrame` of pandas with the columns of `columns`.
+
+        >>> import finder
+        >>> back = finder.retrograde("examples/de405-2000.asc", "mercury", end="2000-06-01", observer="earth", frame="ecl")
+        >>> print(back.to_pandas()[["kind", "target", "certain", "first"]].to_string(index=False))
+           kind  target  certain               first
+        station mercury     True 2000-02-21 12:41:03
+        station mercury    False 2000-02-21 12:41:03
+        """
+        return frame_of(self.columns(), {"made_of": list(self.made_of)})
+
+    def time(self, which: End = "last") -> Any:
+        """The first or last times of the possible spans, as an astropy `Time` of scale TDB."""
+        return self.possible.time(which)
+
+    def _repr_html_(self) -> str:
+        """The first spans as a table, for a notebook."""
+        columns = self.columns()
+        return html_of({name: columns[name] for name in ("certain", "first", "last")}, f"{self!r} (TDB)")
 
     def __bool__(self) -> bool:
         raise TypeError("a set is neither true nor false: ask `sure` or `possible`, and join sets by & and |")

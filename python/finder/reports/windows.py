@@ -10,9 +10,11 @@ import numpy.typing as npt
 
 from .. import spans
 from ..ephemeris.named import bodies_of
+from ..ephemeris.names import Files
 from ..public import public
 from ..spans import Report
 from .ends import End, Ends, datetime64_of
+from .table import columns_of, frame_of, html_of, lines_of
 
 
 @public
@@ -51,11 +53,24 @@ class Windows(Ends, Sequence[Window]):
     of `rise`, `fall` and, for an undecided window, the empty text. The event of a certain window of one tick has
     happened at that tick and had not happened one before. A slice holds some of the windows of the same search.
 
-    `names` are those that an `Ephemeris` has for words of the program, by these words, and `bodies` those of the request.
+    `names` are those that an `Ephemeris` has for words of the program, by these words, and `bodies` those of the
+    request. `files` are what was searched, or None of a report that was read.
+
+    >>> import finder
+    >>> finder.apsides("examples/de405-2000.asc", "moon", "2000-03-01", "2000-05-01", observer="earth")
+    <Windows of 'FIND apsis target moon second - observer earth frame eq axis - values - dir any width 1 depth 40 cut \
+half': 4 certain, 0 undecided
+      2000-03-14T23:39:59 rise      perigee
+      2000-03-27T17:20:43 fall      apogee
+      2000-04-08T22:06:56 rise      perigee
+      2000-04-24T12:26:28 fall      apogee>
     """
 
-    def __init__(self, report: Report, names: Optional[Mapping[str, str]] = None) -> None:
+    def __init__(
+        self, report: Report, names: Optional[Mapping[str, str]] = None, files: Optional[Files] = None
+    ) -> None:
         self.names = dict(names or {})
+        self.files = files
         self.request = report.request
         self.tick = report.tick
         self.start = report.start
@@ -66,9 +81,9 @@ class Windows(Ends, Sequence[Window]):
         for array in (self.first, self.last, self.turn):
             array.flags.writeable = False
 
-    def __reduce__(self) -> tuple[type[Windows], tuple[Report, dict[str, str]]]:
+    def __reduce__(self) -> tuple[type[Windows], tuple[Report, dict[str, str], Any]]:
         # (arrays that are pickled can be written to where they arrive, those that are made of a report cannot)
-        return Windows, (self.report, self.names)
+        return Windows, (self.report, self.names, self.files)
 
     @classmethod
     def of_text(cls, text: str) -> Windows:
@@ -127,7 +142,7 @@ class Windows(Ends, Sequence[Window]):
         if isinstance(place, (int, np.integer)):
             return self._window(int(place))
         chosen = [self._window(number) for number in np.arange(len(self))[place]]
-        return Windows(Report(self.request, self.tick, self.start, self.end, tuple(chosen)), self.names)
+        return Windows(Report(self.request, self.tick, self.start, self.end, tuple(chosen)), self.names, self.files)
 
     def _window(self, place: int) -> Window:
         return Window(int(self.first[place]), int(self.last[place]), str(self.turn[place]) or None, self.tick)
@@ -139,8 +154,16 @@ class Windows(Ends, Sequence[Window]):
         return hash(self.report)
 
     def __repr__(self) -> str:
+        return "\n".join([f"<{self._title()}", *lines_of(self)]) + ">"
+
+    def _repr_html_(self) -> str:
+        """The first windows as a table, for a notebook."""
+        columns = self.columns()
+        return html_of({name: columns[name] for name in ("name", "turn", "first", "last")}, f"{self._title()} (TDB)")
+
+    def _title(self) -> str:
         certain = int(self.certain.sum())
-        return f"<Windows of {self.request!r}: {certain} certain, {len(self) - certain} undecided>"
+        return f"Windows of {self.request!r}: {certain} certain, {len(self) - certain} undecided"
 
     @property
     def certain(self) -> npt.NDArray[np.bool_]:
@@ -160,24 +183,52 @@ class Windows(Ends, Sequence[Window]):
         mask: npt.NDArray[np.bool_] = self.turn == "fall"
         return mask
 
-    def to_pandas(self) -> Any:
-        """A `DataFrame` of pandas: first and last ticks, the turn (empty where it is undecided), and the times on the
-        calendar of TDB as texts, since the times of pandas may end at 1677 and 2262."""
-        import pandas
+    def to_pandas(self, *, seen: Any = False, values: Any = False, files: Optional[Files] = None) -> Any:
+        """A `DataFrame` of pandas with a row for each window, of the same columns for every kind and tick: `kind`,
+        `target`, `second`, `name`, `turn` (None where it is undecided), `certain`, `first` and `last` (TDB), and both in
+        milliseconds since J2000.
 
-        return pandas.DataFrame(
-            {
-                "first": self.first,
-                "last": self.last,
-                "turn": self.turn.astype(object),
-                "first_tdb": self._texts("first"),
-                "last_tdb": self._texts("last"),
-            }
-        )
+        >>> import finder
+        >>> found = finder.conjunctions("examples/de405-2000.asc", "moon", "sun", observer="earth", frame="ecl")
+        >>> print(found[:2].to_pandas()[["name", "turn", "certain", "last", "last_ms"]].to_string(index=False))
+            name turn  certain                last    last_ms
+        new moon fall     True 2000-01-06 18:15:27  454527000
+        new moon fall     True 2000-02-05 13:05:03 3027903000
+        >>> print(found[:1].to_pandas(seen=True, values=True)[["seen_utc", "target_distance_km"]].round(0).to_string())
+                         seen_utc  target_distance_km
+        0 2000-01-06 18:13:38.123            404695.0
 
-    def to_table(self) -> Any:
-        """A `Table` of astropy: the first and the last times, and the turn, with the request in its `meta`."""
+        With `seen` there are `seen_utc`, the time at which it is seen, and `later_s`, by how many seconds that is later;
+        with `values` the numbers of `finder.values` at the window. Both are computed in doubles of the files of the search,
+        or of `files`, and unproved; each may be what `finder.seen` or `finder.values` gave.
+        """
+        return frame_of(self.columns(seen=seen, values=values, files=files), {"request": self.request})
+
+    def columns(self, *, seen: Any = False, values: Any = False, files: Optional[Files] = None) -> dict[str, Any]:
+        """The columns of `to_pandas` as arrays, for other tables: those of Arrow, polars or a file of one's own.
+
+        >>> import finder
+        >>> found = finder.oppositions("examples/de405-2000.asc", "jupiter", observer="earth", frame="ecl")
+        >>> {name: column.tolist() for name, column in found.columns().items() if name in ("name", "certain", "last_ms")}
+        {'name': ['opposition'], 'certain': [True], 'last_ms': [28648938000]}
+        """
+        from ..seen import seen as of_seen
+        from ..seen import values as of_values
+
+        times = of_seen.seen(self, files) if seen is True else seen or None
+        numbers = of_values.values(self, files) if values is True else values or None
+        return columns_of(self, times, numbers)
+
+    def to_table(self, *, seen: Any = False, values: Any = False, files: Optional[Files] = None) -> Any:
+        """A `Table` of astropy with the columns of `to_pandas`, in which `first` and `last` are `Time`s of scale TDB, and
+        with the request in its `meta`.
+
+        >>> import finder
+        >>> found = finder.oppositions("examples/de405-2000.asc", "jupiter", observer="earth", frame="ecl")
+        >>> found.to_table()["last"][0].utc.iso
+        '2000-11-28 02:01:13.817'
+        """
         from astropy.table import Table
 
-        columns = {"first": self.time("first"), "last": self.time("last"), "turn": self.turn.copy()}
-        return Table(columns, meta={"request": self.request})
+        columns = self.columns(seen=seen, values=values, files=files)
+        return Table({**columns, "first": self.time("first"), "last": self.time("last")}, meta={"request": self.request})

@@ -4,7 +4,7 @@ from __future__ import annotations
 
 from dataclasses import dataclass, field
 from fractions import Fraction
-from typing import TYPE_CHECKING, Any, Optional, Union
+from typing import Any, Optional, Union
 
 import numpy as np
 
@@ -18,14 +18,11 @@ from ..reports.certificates import Certificate, certificate
 from ..reports.sets import Span
 from ..reports.windows import Window, Windows
 from ..seen.vectors import Floats, angle, length
+from .kinds import Kind
 from .numbers import Number, cosine_of_degrees, decimal_text
-from .search import Body, Kind, SetOptions, find
-from .words import known
-
-if TYPE_CHECKING:
-    from typing_extensions import Unpack
-else:
-    from .search import Unpack
+from .options import Body, SetOptions, Unpack, searches
+from .search import find
+from .times import Time
 
 # The margins where none is named: a kilometre, and an arc second in degrees.
 KILOMETRE = 1.0
@@ -76,10 +73,13 @@ class Extreme:
 
 
 @public
+@searches(SetOptions)
 def least(
     files: Files,
     target: Body,
     second: Optional[Body] = None,
+    start: Optional[Time] = None,
+    end: Optional[Time] = None,
     *,
     margin: Margin = None,
     **options: Unpack[SetOptions],
@@ -87,26 +87,41 @@ def least(
     """The least distance of a body from the observer in the span, in km, or with a second body the least angle between
     both, in degrees, proved to a margin in the same unit: a kilometre or an arc second where none is named.
 
+    >>> import finder
+    >>> nearest = finder.least("examples/de405-2000.asc", "mars", observer="earth")
+    >>> print(round(nearest.value), nearest.margin, nearest.window.text())
+    253213816 1.0 2001-01-11T00:00:00
+
     Candidates are the events of `apsides` or `separation_extremes` and both ends of the span; their values are doubles.
     Then two searches prove the best of them: at no second of the span the quantity lies below it by more than the
     margin, and at some second it lies at most the margin above it. The seconds are those from `start` to `end`, both of
     them too. `NotProved` where the quantity changes by less than the margin, or a search leaves something undecided.
     """
-    return _extreme(files, target, second, -1, margin, options)
+    return _extreme(files, target, second, -1, margin, {"start": start, "end": end, **options})
 
 
 @public
+@searches(SetOptions)
 def greatest(
     files: Files,
     target: Body,
     second: Optional[Body] = None,
+    start: Optional[Time] = None,
+    end: Optional[Time] = None,
     *,
     margin: Margin = None,
     **options: Unpack[SetOptions],
 ) -> Extreme:
     """The greatest distance of a body from the observer in the span, in km, or with a second body the greatest angle
-    between both, in degrees, proved to a margin: as `least`, the other way round."""
-    return _extreme(files, target, second, 1, margin, options)
+    between both, in degrees, proved to a margin: as `least`, the other way round.
+
+    >>> import finder
+    >>> year = "examples/de405-2000.asc"
+    >>> farthest = finder.greatest(year, "mercury", "sun", "2000-03-01", "2000-05-01", observer="earth")
+    >>> print(round(farthest.value, 2), farthest.quantity, farthest.window.text())
+    27.83 separation 2000-03-28T21:04:23
+    """
+    return _extreme(files, target, second, 1, margin, {"start": start, "end": end, **options})
 
 
 def _extreme(
@@ -115,10 +130,9 @@ def _extreme(
     second: Optional[Body],
     way: int,
     margin: Margin,
-    options: SetOptions,
+    options: dict[str, Any],
 ) -> Extreme:
     """The extreme in one direction: -1 is the least, 1 the greatest."""
-    known("greatest" if way > 0 else "least", options, SetOptions.__optional_keys__)
     if options.get("tick", 1) != 1:
         raise ValueError("extremes are those of whole seconds: leave tick= out, and name a margin")
     kept, slack = held(files), _margin_of(margin, second)

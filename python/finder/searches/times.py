@@ -3,6 +3,7 @@
 from __future__ import annotations
 
 import datetime
+import math
 import re
 from fractions import Fraction
 from typing import Any, Union
@@ -14,8 +15,11 @@ from .. import spans
 Time = Union[int, str, np.datetime64, datetime.datetime, datetime.date, Any]
 J2000 = np.datetime64("2000-01-01T12:00:00", "s")
 J2000_DAYS = 2_451_545
-TEXT = re.compile(r"([0-9]{4}|-[0-9]{6})-[0-9]{2}-[0-9]{2}(?:[T ]([0-9]{2}:[0-9]{2})(:[0-9]{2})?(\.[0-9]+)?)?")
-ZONE = re.compile(r"(.*[0-9:])(?:Z|z|[+-][0-9]{2}:?[0-9]{2}| ?UTC)")
+TEXT = re.compile(
+    r"([0-9]{4}|-[0-9]{6})(-[0-9]{2})?(-[0-9]{2})?"
+    r"(?:(?<=-[0-9]{2}-[0-9]{2})[T ]([0-9]{2}:[0-9]{2})(:[0-9]{2})?(\.[0-9]+)?)?"
+)
+ZONE = re.compile(r"(.*:[0-9.]+) ?(Z|z|[+-][0-9]{2}:?[0-9]{2}|UTC)")
 # How near to a tick an astropy time is that tick: its two doubles hold times to some 10^-11 seconds.
 NEAR = Fraction(1, 10**9)
 
@@ -61,22 +65,35 @@ def seconds_of_length(length: Any) -> Fraction:
 
 
 def _of_text(text: str) -> Fraction:
-    """The seconds of a text: a day, or a day and a time, with seconds and their fraction or without."""
-    found = TEXT.fullmatch(text)
+    """The seconds of a text: a year, a month, a day, or a day and a time, with seconds and their fraction or without.
+    One with a zone is of UTC."""
     zone = ZONE.fullmatch(text)
-    if not found and zone and TEXT.fullmatch(zone[1]):
-        raise ValueError(
-            f"a time with a zone is of UTC, and times are TDB: of {text!r} write astropy.time.Time({zone[1]!r}, "
-            f"scale='utc') where it is UTC, and {zone[1]!r} where it is TDB"
-        )
-    if not found or (found[4] and not found[3]):
-        raise ValueError(f"no time: {text!r}; write it as 2000-05-01 or 2000-05-01T12:00:00")
-    day = text[: found.end(1) + 6]
+    found = TEXT.fullmatch(zone[1] if zone else text)
+    if not found or (found[6] and not found[5]):
+        form = "2000-05-01 or 2000-05-01T12:00:00, of TDB, or with a zone, as 2000-05-01T12:00:00Z"
+        raise ValueError(f"no time: {text!r}; write it as {form}")
+    year, month, day, clock, second, part = found.groups()
     try:
-        whole = spans.ticks_of(f"{day}T{found[2] or '00:00'}{found[3] or ':00'}")
+        whole = spans.ticks_of(f"{year}{month or '-01'}{day or '-01'}T{clock or '00:00'}{second or ':00'}")
     except spans.WrongReport:
         raise ValueError(f"no time of the calendar: {text!r}") from None
-    return whole + Fraction(f"0{found[4] or ''}")
+    seconds = whole + Fraction(f"0{part or ''}")
+    return _of_utc(seconds - _offset(zone[2])) if zone else seconds
+
+
+def _offset(zone: str) -> int:
+    """The seconds by which a zone of a text is ahead of UTC."""
+    if zone[0] not in "+-":
+        return 0
+    hours, minutes = int(zone[1:3]), int(zone[-2:])
+    return (hours * 3_600 + minutes * 60) * (-1 if zone[0] == "-" else 1)
+
+
+def _of_utc(seconds: Fraction) -> Fraction:
+    """The seconds of TDB since J2000 of those of a calendar of UTC, by the leap seconds of erfa: `NoErfa` without it."""
+    from ..seen.scales import tdb_of_utc
+
+    return tdb_of_utc(seconds)
 
 
 def _of_datetime64(time: np.datetime64) -> Fraction:
@@ -96,12 +113,13 @@ def _part(time: np.datetime64, whole: np.datetime64) -> Fraction:
 
 
 def _of_datetime(time: datetime.datetime) -> Fraction:
-    """The seconds of a `datetime` without a zone; a `Timestamp` of pandas is one, with nanoseconds."""
+    """The seconds of a `datetime`, which without a zone is of TDB; a `Timestamp` of pandas is one, with nanoseconds."""
     if time.tzinfo is not None:
-        raise TypeError(
-            "a time with a zone is of UTC, and times are TDB: write astropy.time.Time(..), which is turned into TDB, "
-            "or leave the zone out where it is TDB"
-        )
+        offset = time.utcoffset() or datetime.timedelta(0)
+        behind = Fraction(offset.days * spans.DAY + offset.seconds) + Fraction(offset.microseconds, 10**6)
+        # (of both times that a clock shows when it is put back, `utcoffset` knows which it is)
+        local = time.tz_localize(None) if hasattr(time, "tz_localize") else time.replace(tzinfo=None)
+        return _of_utc(_of_datetime(local) - behind)
     if hasattr(time, "to_datetime64"):
         return _of_datetime64(time.to_datetime64())
     days = (time.date() - datetime.date(2000, 1, 1)).days
@@ -114,9 +132,29 @@ def _of_astropy(time: Any, tick: int) -> Fraction:
     if getattr(time, "shape", ()) != ():
         raise TypeError("one time is wanted, not an array of them")
     whole = time.tdb
-    seconds = (Fraction(float(whole.jd1)) + Fraction(float(whole.jd2)) - J2000_DAYS) * spans.DAY
+    return _near_tick((Fraction(float(whole.jd1)) + Fraction(float(whole.jd2)) - J2000_DAYS) * spans.DAY, tick)
+
+
+def _of_skyfield(time: Any, tick: int) -> Fraction:
+    """The seconds of a Skyfield `Time`, in its scale TDB; one within a nanosecond of a tick is that tick."""
+    if getattr(time, "shape", ()) != ():
+        raise TypeError("one time is wanted, not an array of them")
+    days = Fraction(float(time.whole)) + Fraction(float(time.tdb_fraction))
+    return _near_tick((days - J2000_DAYS) * spans.DAY, tick)
+
+
+def _near_tick(seconds: Fraction, tick: int) -> Fraction:
+    """Seconds, or those of a tick that is within a nanosecond of them."""
     near = Fraction(round(seconds * tick), tick)
     return near if abs(near - seconds) < NEAR else seconds
+
+
+def _of_float(seconds: float, tick: int) -> Fraction:
+    """Seconds since J2000 (TDB) that are a whole number of ticks, as SPICE's ephemeris seconds are floats."""
+    if not math.isfinite(seconds) or not (Fraction(seconds) * tick).denominator == 1:
+        name = "a second" if tick == 1 else "a millisecond"
+        raise ValueError(f"{seconds!r} is between two ticks: write a whole number of ticks of {name}, or a text")
+    return Fraction(seconds)
 
 
 def ticks_of_time(time: Time, tick: int, up: bool) -> int:
@@ -125,6 +163,8 @@ def ticks_of_time(time: Time, tick: int, up: bool) -> int:
         raise TypeError(f"no time: {time!r}")
     if isinstance(time, (int, np.integer)) and not isinstance(time, np.timedelta64):
         seconds = Fraction(int(time))
+    elif isinstance(time, (float, np.floating)):
+        seconds = _of_float(float(time), tick)
     elif isinstance(time, str):
         seconds = _of_text(time)
     elif isinstance(time, np.datetime64):
@@ -135,10 +175,12 @@ def ticks_of_time(time: Time, tick: int, up: bool) -> int:
         seconds = _of_text(time.isoformat())
     elif hasattr(time, "tdb") and hasattr(time, "jd1"):
         seconds = _of_astropy(time, tick)
+    elif hasattr(time, "whole") and hasattr(time, "tdb_fraction"):
+        seconds = _of_skyfield(time, tick)
     else:
         raise TypeError(
-            f"no time: {time!r}; a time is a whole number of seconds, a text, a datetime64, a datetime "
-            "without a zone or an astropy Time"
+            f"no time: {time!r}; a time is a whole number of seconds, a text, a datetime64, a datetime, "
+            "a pandas Timestamp, or a Time of astropy or Skyfield"
         )
     ticks = seconds * tick
     return -(-ticks // 1) if up else ticks // 1

@@ -13,27 +13,15 @@ from typing import Any, Optional
 import numpy as np
 
 from ..public import public
+from .kinds import KINDS
 
-# The kinds that are of directions, which are asked for from a planet, and those of a distance.
-DIRECTIONS = ("conj", "oppo", "station", "sep", "sepext", "any", "full", "annular")
-DISTANCES = ("radius", "apsis")
-# What an astronomer calls a kind.
-MEANT = {
-    "coordinate": "coord",
-    "distance": "radius",
-    "apsides": "apsis",
-    "perihelion": "apsis",
-    "perigee": "apsis",
-    "conjunction": "conj",
-    "opposition": "oppo",
-    "separation": "sep",
-    "elongation": "sepext",
-    "occultation": "any",
-    "eclipse": "any",
-    "transit": "any",
-    "ecliptic": "ecl",
-    "equator": "eq",
-}
+# What an astronomer calls a kind, or a frame.
+MEANT = {word: row.word for row in KINDS.values() for word in row.meant}
+# The bodies of which each lies on the line through the others; the kinds whose function is then 0 at all times, and the
+# depth up to which a search for it ends at once.
+ONE_LINE = {"earth", "moon", "emb"}
+OF_LINES = ("conj", "oppo", "sepext")
+SHALLOW = 12
 
 
 @public
@@ -51,16 +39,6 @@ def one_of(what: str, value: Any, allowed: Sequence[str]) -> None:
     near = [meant] if meant and meant in allowed else difflib.get_close_matches(value.lower(), allowed, 1)
     hint = f"did you mean {near[0]!r}? There " if near else "there "
     raise ValueError(f"no {what} is {value!r}: {hint}are {', '.join(allowed)}")
-
-
-def known(function: str, options: Mapping[str, Any], allowed: Iterable[str]) -> None:
-    """Refuses options that a function does not take, as Python does where each is a word of its own."""
-    names = sorted(allowed)
-    for name in options:
-        if name not in names:
-            near = difflib.get_close_matches(name, names, 1)
-            hint = f"did you mean {near[0]!r}?" if near else f"there are {', '.join(names)}"
-            raise TypeError(f"{function}() takes no option {name!r}: {hint}")
 
 
 def whole(name: str, value: Any) -> None:
@@ -93,9 +71,21 @@ def radii_of(radii: Any, apart: tuple[Any, ...] = ()) -> tuple[Any, Any]:
     return radii[0], radii[1]
 
 
+def refuse_one_line(options: Mapping[str, Any]) -> None:
+    """Refuses a search for what two bodies do that lie in one line with the observer at all times."""
+    in_line = {options["target"], options["second"], options["observer"]} == ONE_LINE
+    if in_line and options["kind"] in OF_LINES and options["depth"] > SHALLOW:
+        raise ValueError(
+            f"{options['target']} and {options['second']} lie in one line with {options['observer']} at all times, as "
+            "emb is the barycentre of Earth and Moon: no tick tells a sign, and the search would take hours. Name "
+            f"other bodies, or depth={SHALLOW // 2}, which ends at once with one undecided window"
+        )
+
+
 def warn_of_barycentre(kind: str, target: str, observer: Optional[str]) -> None:
     """Warns where nobody named an observer, for what is asked from a planet or, of the Moon, from the Earth."""
-    if observer is None and (kind in DIRECTIONS or (kind in DISTANCES and target == "moon")):
+    view = KINDS[kind].view
+    if observer is None and (view == "direction" or (view == "distance" and target == "moon")):
         text = (
             f"no observer is named, so that {kind} is searched for from the barycentre of the solar system: write "
             "observer='earth' for what is seen from the Earth, and observer='ssb' for the barycentre without a warning"

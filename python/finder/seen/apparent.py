@@ -3,7 +3,7 @@
 from __future__ import annotations
 
 from collections.abc import Callable
-from typing import Any
+from typing import Any, Optional
 
 import numpy as np
 
@@ -89,6 +89,20 @@ def frames_of_date(frame: str, times: Floats) -> Floats:
     return floats(erfa.rx(mean + obliquity, rows) if frame == "ecl" else rows)
 
 
+# The first series of JPL whose axes are those of the ICRS, from which the equator of date is reckoned.
+FIRST_OF_ICRS = 403
+
+
+def check_axes(number: Optional[int], advice: str) -> None:
+    """Refuses axes of date for a series of JPL, by its number, whose own axes are not those of the ICRS; None is none of
+    JPL's numbers."""
+    if number is not None and number < FIRST_OF_ICRS:
+        raise ValueError(
+            f"DE{number} is older than DE{FIRST_OF_ICRS}, and its axes are not those of the ICRS, from which the equator "
+            f"and the ecliptic of date are reckoned: {advice}, or take a later series"
+        )
+
+
 @public
 class ApparentPlaces:
     """Places of bodies as they are seen from one another, in doubles and unproved.
@@ -101,6 +115,7 @@ class ApparentPlaces:
     def __init__(self, series: Series, of_date: bool = True, bending: bool = True) -> None:
         if of_date:
             erfa_package()
+            check_axes(series.number, "of_date=False gives places on the axes of the files")
         self._series = series
         self._of_date = of_date
         self._bending = bending

@@ -7,6 +7,7 @@ import numpy as np
 from .. import spans
 from ..ephemeris.files import number_of
 from ..ephemeris.series import Series
+from ..searches.kinds import KINDS
 from .vectors import Floats, angle, disc, floats, length, longitude, wrapped
 
 # The speed of light in km/s.
@@ -25,27 +26,13 @@ class Curve:
     `asked` are the words of the request by their names, as `Windows.asked` has them. Places are geometric, of `series`.
     """
 
-    UNITS = {
-        "coord": "coordinate less the value, km",
-        "radius": "distance less the value, km",
-        "apsis": "change of the distance, km/s",
-        "conj": "longitude of {second} less that of {target}, degrees",
-        "oppo": "longitude of {target} less the one opposite to {second}, degrees",
-        "station": "change of the longitude, degrees a day",
-        "sep": "the angle of the value less that between {target} and {second}, degrees",
-        "sepext": "decrease of the angle between {target} and {second}, degrees a day",
-        "any": "both radii less the angle between {target} and {second}, degrees",
-        "full": "{target}'s radius less {second}'s and the angle between them, degrees",
-        "annular": "{second}'s radius less {target}'s and the angle between them, degrees",
-    }
-
     def __init__(self, series: Series, asked: dict[str, str]) -> None:
         self._series = series
         self._asked = asked
         self._kind = asked["kind"]
         self._values = [] if asked["values"] == "-" else [number_of(word) for word in asked["values"].split(",")]
         names = {name: asked[name].capitalize() for name in ("target", "second")}
-        self.unit = self.UNITS[self._kind].format(**names)
+        self.unit = KINDS[self._kind].unit.format(**names)
 
     def _place(self, role: str, times: Floats) -> Floats:
         """The place of the target or the second body from the observer, in km."""

@@ -9,6 +9,7 @@ import warnings
 import zoneinfo
 from dataclasses import dataclass
 from enum import Enum
+from fractions import Fraction
 from typing import Union
 
 from .. import spans
@@ -59,6 +60,19 @@ def _tdb_of_utc(moment: datetime.datetime) -> float:
     whole, part = erfa.taitt(*tai)
     seconds = float((whole - J2000_DATE) * spans.DAY + part * spans.DAY)
     return seconds + _tdb_less_tt(seconds)
+
+
+def tdb_of_utc(seconds: Fraction) -> Fraction:
+    """The seconds of TDB since J2000 of a time of UTC, given as the seconds of its calendar since 2000-01-01T12:00:00,
+    with days of 86,400 of them: to some nanoseconds, by the leap seconds that erfa knows. From 1960 on there is UTC."""
+    erfa = erfa_package()
+    days, rest = divmod(seconds, spans.DAY)
+    with warnings.catch_warnings():
+        warnings.simplefilter("ignore", erfa.ErfaWarning)
+        tai = erfa.utctai(J2000_DATE + float(days), float(rest) / spans.DAY)
+    whole, part = erfa.taitt(*tai)
+    made = (Fraction(float(whole)) + Fraction(float(part)) - Fraction(J2000_DATE)) * spans.DAY
+    return made + Fraction(_tdb_less_tt(float(made)))
 
 
 def last_leap_second() -> datetime.date:

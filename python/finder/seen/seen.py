@@ -6,6 +6,7 @@ same function is solved for bodies seen by light time, aberration and the bendin
 
 from __future__ import annotations
 
+from collections.abc import Iterator
 from typing import Any, Optional
 
 import numpy as np
@@ -17,32 +18,22 @@ from ..ephemeris.order import J2000_DATE
 from ..ephemeris.series import Series
 from ..public import public
 from ..reports.windows import Window, Windows
-from ..searches.search import Body
+from ..searches.bodies import body_word
+from ..searches.kinds import KINDS, ROWS
+from ..searches.options import Body
 from ..searches.times import J2000
 from .apparent import ApparentPlaces
 from .curves import Curve
 from .roots import roots
+from .scales import utc_of
 from .vectors import Floats, floats, longitude, wrapped
 
 # The kinds of distances, which an almanac prints geometric, and those whose function does not depend on axes.
-GEOMETRIC = ("apsis", "radius")
-OF_ANGLES = ("sep", "sepext", "any", "full", "annular")
-# The seconds on both sides of a window within which an event is seen, besides so many times the light's way: where two
-# bodies move almost alike in longitude, they may be seen to meet days from where their places do.
+GEOMETRIC = tuple(row.word for row in ROWS if row.view == "distance")
+OF_ANGLES = tuple(row.word for row in ROWS if row.view == "direction" and not row.frame)
+# So many times the way of light are added to the seconds within which an event of a kind is seen: where two bodies move
+# almost alike in longitude, they may be seen to meet days from where their places do.
 LIGHT_WAYS = 4.0
-REACH = {
-    "apsis": 900.0,
-    "radius": 900.0,
-    "coord": 1.0 * spans.DAY,
-    "conj": 10.0 * spans.DAY,
-    "oppo": 3.0 * spans.DAY,
-    "station": 3.0 * spans.DAY,
-    "sep": 1.0 * spans.DAY,
-    "sepext": 3.0 * spans.DAY,
-    "any": 0.1 * spans.DAY,
-    "full": 0.1 * spans.DAY,
-    "annular": 0.1 * spans.DAY,
-}
 # Precession moves a coordinate of a slow body by years in a century: there so many times the estimate of the distance
 # are added, up to the most.
 ESTIMATES = 4.0
@@ -107,6 +98,25 @@ class Seen:
         """The seconds by which each is seen after its window, below 0 before it."""
         return self.seconds - middles(self.found)
 
+    def __iter__(self) -> Iterator[tuple[Window, float]]:
+        """Each window, with the seconds since J2000 (TDB) at which it is seen: NaN where missing."""
+        return iter(zip(self.found, self.seconds.tolist()))
+
+    def utc64(self) -> npt.NDArray[np.datetime64]:
+        """The times of UTC as `datetime64[ms]`, to the nearest millisecond; NaT where missing."""
+        made = np.full(len(self), np.datetime64("NaT"), dtype="datetime64[ms]")
+        for place in np.flatnonzero(~self.missing).tolist():
+            made[place] = np.datetime64(utc_of(float(self.seconds[place]) + 5e-4).replace(tzinfo=None), "ms")
+        return made
+
+    def to_pandas(self) -> Any:
+        """A `DataFrame` of pandas: the columns of `Windows.to_pandas`, with `seen_utc` and `later_s`."""
+        return self.found.to_pandas(seen=self)
+
+    def to_table(self) -> Any:
+        """A `Table` of astropy: the columns of `Windows.to_table`, with `seen_utc` and `later_s`."""
+        return self.found.to_table(seen=self)
+
     def datetime64(self) -> npt.NDArray[np.datetime64]:
         """The times on the calendar of TDB, to the nearest millisecond; NaT where missing."""
         milliseconds = np.where(self.missing, 0, self.seconds * 1_000).round().astype("m8[ms]")
@@ -163,7 +173,8 @@ def seen(
     prints geometric, are solved so, within their windows. With `phases` a search `sep` of the cosine 0 is solved for a
     difference of 90 degrees in ecliptic longitude, as quarters of the Moon are defined. With `arrival`, a body, each
     time is that at which light from the request's observer comes there: `arrival="earth"` for eclipses seen from the
-    Moon. The `files` are read for it, those of the search; or `series`, what was read of them before.
+    Moon. The `files` of the search are read for it, or those that are named; or `series` is what was read of
+    them before.
 
     No window is dropped, and none has the time of another. One without a time stands in `unsolved` with the reason: the
     files end within light time of it, a graze may be no event for bodies as they are seen, two bodies that move almost
@@ -178,10 +189,11 @@ def seen(
     geometric = Curve(made, asked)
     curve = geometric if asked["kind"] in GEOMETRIC else SeenCurve(made, asked, of_date, bending, phases)
     solved = _solved(curve, found, _signs(geometric, found))
-    if arrival is None or arrival == asked["observer"]:
+    there: Optional[str] = body_word(arrival)
+    if there is None or there == asked["observer"]:
         return solved
     places = ApparentPlaces(made, of_date=False)
-    return _arrived(solved, arrival, places.light_to(arrival, asked["observer"], solved.seconds))
+    return _arrived(solved, there, places.light_to(there, asked["observer"], solved.seconds))
 
 
 def _arrived(solved: Seen, arrival: str, ways: Floats) -> Seen:
@@ -220,11 +232,12 @@ def _series_near(found: Windows, files: Optional[Files], series: Optional[Series
     """What is read of the files about the windows of a search."""
     if series is not None:
         return series
+    files = found.files if files is None else files
     if files is None:
         raise TypeError("the files of the search are wanted, or a series of them")
     kind = found.asked["kind"]
     # (light comes from some hours before, and so many times them are looked through)
-    pad = REACH[kind] + (MOST if kind == "coord" else 0) + 3 * spans.DAY
+    pad = KINDS[kind].reach + (MOST if kind == "coord" else 0) + 3 * spans.DAY
     pad += float((found.last - found.first).max()) / found.tick
     return Series(files, float(middle.min()) - pad, float(middle.max()) + pad)
 
@@ -247,7 +260,7 @@ def _signs(curve: Curve, found: Windows) -> Floats:
 def _reach(curve: Curve, found: Windows, middle: Floats) -> Floats:
     """The seconds on both sides of the middle of each window within which its time is looked for."""
     kind = found.asked["kind"]
-    base = floats(REACH[kind] + (found.last - found.first) / (2 * found.tick))
+    base = floats(KINDS[kind].reach + (found.last - found.first) / (2 * found.tick))
     if kind in GEOMETRIC:
         return base
     base += LIGHT_WAYS * np.nan_to_num(curve.light(middle))

@@ -2,6 +2,7 @@
 
 from __future__ import annotations
 
+from collections.abc import Iterator
 from dataclasses import dataclass
 from typing import Any, Optional, Union
 
@@ -10,6 +11,7 @@ import numpy.typing as npt
 
 from .. import spans
 from ..ephemeris.names import Files
+from ..ephemeris.order import J2000_DATE
 from ..ephemeris.series import Series
 from ..public import public
 from ..reports.windows import Windows
@@ -74,6 +76,19 @@ class Values:
         places = "apparent" if self.apparent else "geometric"
         axes = "of date" if self.of_date else "of J2000"
         return f"<Values of {len(self)} events, {places}, {axes}, in doubles, unproved>"
+
+    def __iter__(self) -> Iterator[dict[str, Any]]:
+        """The numbers of each window, by the names of their columns."""
+        columns = self.columns()
+        for place in range(len(self)):
+            yield {name: column[place].item() for name, column in columns.items()}
+
+    def time(self) -> Any:
+        """The times of the numbers as an astropy `Time` of scale TDB."""
+        from astropy.time import Time
+
+        days, rest = np.divmod(self.seconds, spans.DAY)
+        return Time(J2000_DATE + days, rest / spans.DAY, format="jd", scale="tdb")
 
     def _units(self) -> dict[str, tuple[Any, str]]:
         """All columns by their names, each with its unit."""
@@ -176,6 +191,7 @@ def series_about(files: Optional[Files], series: Optional[Series], seconds: Floa
     """What is read of the files about some times, or about the begin of a search's span where there are none."""
     if series is not None:
         return series
+    files = found.files if files is None else files
     if files is None:
         raise TypeError("the files of the search are wanted, or a series of them")
     some = seconds[~np.isnan(seconds)]

@@ -49,9 +49,18 @@ class Passage:
         return self.outer[0].seconds, self.outer[-1].seconds
 
 
+def radius_text(radius: float) -> str:
+    """A radius in km for a request, to ten digits: a sum of radii has float dirt in its last ones.
+
+    >>> radius_text(6442.4 + 1737.4)
+    '8179.8'
+    """
+    return f"{radius:.10g}"
+
+
 def passages(searches: Searches, pair: Pair, span: Span, precise: bool, about: str) -> list[Passage]:
     """The passages of a pair in a span, in order. `about` is the body whose altitude and azimuth the contacts have."""
-    radii = tuple(repr(radius) for radius in pair.radii)
+    radii = tuple(map(radius_text, pair.radii))
     found = searches.windows("any", *pair.words, span, SECOND, radii=radii, observer=pair.observer)
     return [_passage(searches, pair, group, span, precise, about) for group in _grouped(found)]
 
@@ -79,7 +88,7 @@ def _passage(
     def contacts(kind: str, named: tuple[str, str], **more: str) -> list[Moment]:
         words: dict[str, Any] = {"observer": pair.observer, **more}
         if kind != "sepext":
-            words["radii"] = tuple(repr(radius) for radius in pair.radii)
+            words["radii"] = tuple(map(radius_text, pair.radii))
         windows = [
             searches.windows(kind, *pair.words, near, tick, **words)
             for tick in ((SECOND, MILLISECOND) if precise else (SECOND,))

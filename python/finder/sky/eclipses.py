@@ -12,7 +12,7 @@ import numpy as np
 from ..almanac.shadows import SHADOW, moon_sizes
 from ..public import public
 from .bodies import INNER, RADII, short_title
-from .discs import Cover, Pair, Passage, cover_at, passages
+from .discs import Cover, Pair, Passage, cover_at, passages, radius_text
 from .moments import Moment, Moments, moments_of
 from .searching import MILLISECOND, SECOND, Searches, Span, TextOfSky
 
@@ -158,7 +158,8 @@ def _lunar_contacts(
     searches: Searches, row: tuple[str, int, int, tuple[str, str]], span: Span, precise: bool, radii: Mapping[str, float]
 ) -> list[Moment]:
     kind, of_shadow, of_sun, names = row
-    words = repr(radii["shadow"] + of_shadow * radii["moon"]), repr(radii["sun"] + of_sun * radii["moon"])
+    shadow, sun = (radii[body] + sign * radii["moon"] for body, sign in (("shadow", of_shadow), ("sun", of_sun)))
+    words = radius_text(shadow), radius_text(sun)
     found = [
         searches.windows(kind, "earth", "sun", span, tick, radii=words, observer="moon")
         for tick in ((SECOND, MILLISECOND) if precise else (SECOND,))

@@ -25,6 +25,8 @@ LIMBS = ("upper", "centre", "lower")
 LIMB_OF = {"moon": "upper"}
 # A body that rises and sets does so each day: where it has not for so many seconds, that is said.
 LONG = 1.3 * spans.DAY
+# A span without any is spoken of from so many seconds on.
+SHORT = 0.9 * spans.DAY
 
 
 @dataclass(frozen=True)
@@ -111,7 +113,7 @@ def said_of(searches: Searches, body: str, made: Sequence[Moment], horizon: Hori
     said = []
     times = [float(span[0]), *(each.seconds for each in made), float(span[1])]
     for number, (start, end) in enumerate(zip(times, times[1:])):
-        if end - start < LONG:
+        if end - start < (LONG if made else SHORT):
             continue
         below = _is_below(searches, body, horizon, (start + end) / 2)
         first, last = (f"{clock.at(time):%Y-%m-%d}" for time in (start, end))

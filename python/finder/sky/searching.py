@@ -14,7 +14,8 @@ import numpy as np
 from ..process.program import Runs
 from ..reports.sets import TimeSet
 from ..reports.windows import Windows
-from ..searches.search import find, times
+from ..searches.durations import times
+from ..searches.search import find
 from ..seen.vectors import Floats, angle, floats, length
 from .bodies import DIRECTIONS
 from .moments import Moment, moments_of, with_places

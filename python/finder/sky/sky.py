@@ -56,8 +56,8 @@ class Sky(SkyText):
     >>> eph = finder.Ephemeris.open("examples/de405-2000.asc")
     >>> sky = eph.sky("51.4769 N 0 E 46 m", "2000-06-20", "2000-06-22")
     >>> print(sky.rises("sun"))
-    2000-06-20 03:42:45 UTC  sunrise  NE
-    2000-06-21 03:42:55 UTC  sunrise  NE
+    2000-06-20 03:42:34 UTC  sunrise  NE
+    2000-06-21 03:42:45 UTC  sunrise  NE
     """
 
     _source: Optional[Ephemeris] = None
@@ -94,7 +94,7 @@ class Sky(SkyText):
         >>> eph = finder.Ephemeris.open("examples/de405-2000.asc")
         >>> sky = eph.sky("51.4769 N 0 E 46 m", "2000-06-20", "2000-06-23")
         >>> print(sky.between("2000-06-21", "2000-06-22").sets("moon"))
-        2000-06-21 08:02:32 UTC  moonset  SW
+        2000-06-21 07:51:38 UTC  moonset  WSW
         """
         first, last = ticks_of_time(start, SECOND, up=False), ticks_of_time(end, SECOND, up=True)
         if not self._span[0] <= first < last <= self._span[1]:
@@ -273,7 +273,7 @@ class Sky(SkyText):
         `"civil"` 6. A warning, `NeverReached`, says that it is never dark."""
         self._needs_place("dark")
         altitude = twilight_of(kind).altitude
-        made = self._by_altitude("sun", altitude, "less")
+        made = self.below_sun(kind)
         if len(made.possible) == 0:
             lowest = self._extreme_altitude("sun", np.min)
             warnings.warn(
@@ -283,6 +283,16 @@ class Sky(SkyText):
                 stacklevel=2,
             )
         return made if within is None else made & within
+
+    def below_sun(self, kind: str) -> TimeSet:
+        """The times of `dark`, without a warning where there are none."""
+        self._needs_place("dark")
+        return self._by_altitude("sun", twilight_of(kind).altitude, "less")
+
+    def by_altitude(self, body: str, degrees: float) -> TimeSet:
+        """The times of `above`, without a warning where there are none."""
+        self._needs_place("above")
+        return self._by_altitude(body, checked_altitude(degrees), "atleast")
 
     def _by_altitude(self, body: str, altitude: float, relation: str) -> TimeSet:
         """The times at which a body is at least at an altitude, or below it: of two searches, for the decimals on both

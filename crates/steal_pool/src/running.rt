@@ -226,8 +226,8 @@ fn run_by_naming<R: Threads + Wait + Sync, N: Naming + Send + Sync, J: Judge, G:
 /// Returns the book of the leaves of a valid root's tree, each entered once by 1 to 64 workers that work at the same
 /// time. In order of time they are the tree's leaves from left to right. The error is `TooMany` if there are more than
 /// `limit` leaves, or `Memory`, which goes before it if workers met both. Each worker passes the gate before each node
-/// that it judges. The first judges the root
-/// before the others start, and once more in its work if the root is not split then.
+/// that it judges. The first judges the root before the others start, and once more in its work if the root is not split
+/// then.
 pub fn run<R: Threads + Wait + Sync, J: Judge, G: Gate>(
     rt: &R,
     alloc: Global,

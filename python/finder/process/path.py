@@ -17,7 +17,15 @@ BEGIN = 400
 
 @public
 class NoProgram(OSError):
-    """There is no command `finder` to run."""
+    """There is no command `finder` to run.
+
+    >>> import finder
+    >>> try:
+    ...     finder.check("examples/de405-2000.asc", program="/no/finder")
+    ... except finder.NoProgram as error:
+    ...     print(error.strerror)
+    /no/finder cannot be run: No such file or directory
+    """
 
 
 def _on_path() -> Optional[str]:

@@ -28,7 +28,12 @@ NODES = np.arange(-2, 4)
 
 @public
 class NoErfa(ImportError):
-    """Equator and equinox of date want the package `erfa` (Debian: python3-erfa; pip: pyerfa), as astropy does."""
+    """Equator and equinox of date want the package `erfa` (Debian: python3-erfa; pip: pyerfa), as astropy does.
+
+    >>> import finder
+    >>> issubclass(finder.NoErfa, ImportError)
+    True
+    """
 
 
 def erfa_package() -> Any:
@@ -110,6 +115,12 @@ class ApparentPlaces:
     Each is where the body was when its light set out, turned by aberration, and with `bending` bent by the Sun's mass.
     With `of_date`, which wants erfa, it is on the axes of date, for files whose axes are those of the ICRS, as those of
     JPL's files have been since DE403; without it on the axes of the file, or the ecliptic of J2000.
+
+    >>> import finder
+    >>> year = "examples/de405-2000.asc"
+    >>> places = finder.ApparentPlaces(finder.Series(year), of_date=False)
+    >>> places.light("sun", "earth", 0.0).round(1)
+    array([490.7])
     """
 
     def __init__(self, series: Series, of_date: bool = True, bending: bool = True) -> None:

@@ -13,6 +13,7 @@ import numpy as np
 import numpy.typing as npt
 
 from .. import spans
+from ..ephemeris.named import refuse_sky
 from ..ephemeris.names import Files
 from ..ephemeris.order import J2000_DATE
 from ..ephemeris.series import Series
@@ -195,6 +196,7 @@ def seen(
     ['2000-01-21 04:40:26.328']
     """
     _refuse(found, phases)
+    refuse_sky(found.files if files is None else files, "seen")
     if len(found) == 0:
         return Seen(found, np.empty(0), found.turn, ())
     asked = found.asked

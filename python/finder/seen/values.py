@@ -10,6 +10,7 @@ import numpy as np
 import numpy.typing as npt
 
 from .. import spans
+from ..ephemeris.named import refuse_sky
 from ..ephemeris.names import Files
 from ..ephemeris.order import J2000_DATE
 from ..ephemeris.series import Series
@@ -165,6 +166,7 @@ def values(
     """
     if not isinstance(found, Windows):
         raise TypeError(f"the windows of a search are wanted, and not {type(found).__name__}")
+    refuse_sky(found.files if files is None else files, "values")
     if of_date and not apparent:
         raise ValueError("places of date are those of bodies as they are seen: apparent=True, of_date=True")
     seconds = middles(found) if at is None else at.seconds if isinstance(at, Seen) else floats(at)

@@ -22,6 +22,8 @@ except ImportError:
 
 HERE = Path(__file__).resolve().parent
 PROGRAM = "finder-x86_64-linux"
+# The program wants the GNU C library 2.34 or later.
+PLATFORM = "manylinux_2_34_x86_64"
 RUNS_HERE = sysconfig.get_platform() == "linux-x86_64"
 
 
@@ -71,7 +73,7 @@ class WheelOfPlatform(bdist_wheel):
     """Makes a wheel that says for which machines its program is; it is of every Python 3."""
 
     def get_tag(self) -> tuple[str, str, str]:
-        return ("py3", "none", "linux_x86_64") if RUNS_HERE else ("py3", "none", "any")
+        return ("py3", "none", PLATFORM) if RUNS_HERE else ("py3", "none", "any")
 
 
 setup(

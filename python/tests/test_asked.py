@@ -170,8 +170,7 @@ class Surface(InFolder):
         self.assertIn("target", typing.get_type_hints(finder.conjunctions))
 
     def test_version_and_names(self):
-        control = (TOP / "packaging/control").read_text()
-        self.assertIn(f"\nVersion: {finder.__version__}\n", control)
+        self.assertTrue((TOP / "packaging/changelog").read_text().startswith(f"finder ({finder.__version__})"))
         self.assertEqual(sorted(finder.__all__), list(finder.__all__))
         self.assertEqual(sorted(finder._HOMES), list(finder.__all__))
         for name in finder.__all__:

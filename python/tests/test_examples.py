@@ -22,6 +22,10 @@ def own_text(part):
 
 
 class Examples(unittest.TestCase):
+    def test_each_name_has_an_example(self):
+        missing = [name for name in finder.__all__ if ">>> " not in own_text(getattr(finder, name))]
+        self.assertEqual(missing, [])
+
     @unittest.skipUnless(all(map(has, NEEDED)), "no astropy, erfa or pandas")
     def test_each_example(self):
         os.environ["FINDER"] = str(PROGRAM)

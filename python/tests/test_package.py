@@ -8,14 +8,23 @@ import sys
 import sysconfig
 import tarfile
 import unittest
+import venv
 import zipfile
 
-from tests.common import PROGRAM, TOP, YEAR, InFolder
+import finder
+from tests.almanacs import has
+from tests.common import PROGRAM, REPORT, TOP, YEAR, InFolder
 
 LINES = """
 import finder
 found = finder.conjunctions({year!r}, "jupiter", "saturn", observer="earth", frame="ecl")
 print(finder.__file__, finder.__version__, found[0].text())
+"""
+REQUEST = "find --kind conj --target jupiter --second saturn --observer earth --frame ecl".split()
+README_LINES = """
+import finder
+found = finder.conjunctions("de405-2000.asc", "jupiter", "saturn", observer="earth", frame="ecl")
+print(found.time())
 """
 HERE = importlib.util.find_spec("setuptools") and importlib.util.find_spec("wheel")
 
@@ -54,12 +63,42 @@ class Built(InFolder):
         variables["PYTHONPATH"] = str(place)
         words = [sys.executable, "-c", LINES.format(year=str(YEAR))]
         said = subprocess.run(words, cwd=place, env=variables, capture_output=True, text=True, check=False)
-        self.assertEqual(said.stdout, f"{place}/finder/__init__.py 0.1 2000-05-28T15:55:49\n", said.stderr)
+        self.assertEqual(said.stdout, f"{place}/finder/__init__.py {finder.__version__} 2000-05-28T15:55:49\n", said.stderr)
 
     def test_a_wheel(self):
         wheel = self.build(self.sources, "wheel")
-        self.assertEqual(wheel.name, "finder-0.1-py3-none-linux_x86_64.whl")
+        self.assertEqual(wheel.name, f"finder-{finder.__version__}-py3-none-manylinux_2_34_x86_64.whl")
         self.run_lines(wheel)
+        self.install(wheel)
+
+    def install(self, wheel):
+        """Installs a wheel in an environment of its own, without the clone and the network, and does what users do."""
+        place, pip = self.folder / "env", [sys.executable, "-m", "pip", "--python", str(self.folder / "env/bin/python")]
+        venv.EnvBuilder(system_site_packages=True, with_pip=False, symlinks=True).create(place)
+        words = [*pip, "install", "--quiet", "--no-deps", "--no-index", str(wheel)]
+        said = subprocess.run(words, capture_output=True, text=True, check=False)
+        self.assertEqual(said.returncode, 0, said.stderr)
+        left = ("FINDER", "PYTHONPATH", "PATH")
+        variables = {name: value for name, value in os.environ.items() if name not in left}
+        variables["PATH"] = f"{place / 'bin'}:/usr/bin:/bin"
+        shutil.copy(YEAR, self.folder / "de405-2000.asc")
+
+        def run(*words):
+            done = subprocess.run(
+                words, cwd=self.folder, env=variables, capture_output=True, text=True, check=False, encoding="utf-8"
+            )
+            self.assertEqual(done.returncode, 0, done.stderr)
+            return done.stdout
+
+        self.assertEqual(run("finder", "--version"), f"finder {finder.__version__}\n")
+        report = run("finder", *REQUEST, "de405-2000.asc")
+        self.assertEqual(report, REPORT)
+        self.assertEqual(run("python", "-m", "finder", *REQUEST, "de405-2000.asc"), report)
+        self.assertIn("/env/", run("python", "-c", "import finder; print(finder.__file__)"))
+        if has("astropy"):
+            self.assertEqual(run("python", "-c", README_LINES), "['2000-05-28T15:55:49.000']\n")
+        if has("erfa"):
+            self.assertIn("March equinox", run("finder", "almanac", "2000", "de405-2000.asc", "--only", "seasons"))
 
     def test_a_source_distribution(self):
         """It holds the program, and a wheel is built of it without the clone."""
@@ -67,7 +106,7 @@ class Built(InFolder):
         with tarfile.open(archive) as file:
             file.extractall(self.folder / "unpacked")
         shutil.rmtree(self.folder / "clone")
-        self.run_lines(self.build(self.folder / "unpacked" / "finder-0.1", "wheel"))
+        self.run_lines(self.build(self.folder / "unpacked" / f"finder-{finder.__version__}", "wheel"))
 
     def test_sources_without_the_program(self):
         shutil.rmtree(self.folder / "clone" / "release")

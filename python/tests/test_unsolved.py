@@ -143,15 +143,15 @@ class Unsolved(InFolder):
 class Refusals(InFolder):
     def test_without_erfa(self):
         found = finder.conjunctions(YEAR, "jupiter", "saturn", **ECL)
-        apart = finder.separation(YEAR, "moon", "sun", cosine=0, observer="earth", end="2000-02-01")
+        apsides = finder.apsides(YEAR, "moon", observer="earth", end="2000-02-01")
         with mock.patch.dict(sys.modules, {"erfa": None}):
-            with self.assertRaisesRegex(finder.NoErfa, "erfa.*of_date=False"):
-                finder.seen(found, YEAR)
+            for options in ({}, {"of_date": False}):
+                with self.assertRaisesRegex(finder.NoErfa, "want the package erfa"):
+                    finder.seen(found, YEAR, **options)
             with self.assertRaises(ImportError):
                 finder.values(found, YEAR, apparent=True, of_date=True)
-            self.assertEqual(finder.seen(found, YEAR, of_date=False).unsolved, [])
-            # (an angle depends on no axes)
-            self.assertEqual(finder.seen(apart, YEAR).unsolved, [])
+            # (an almanac prints distances geometric)
+            self.assertEqual(finder.seen(apsides, YEAR).unsolved, [])
 
     def test_what_has_no_times(self):
         found = finder.conjunctions(YEAR, "jupiter", "saturn", **ECL)

@@ -42,7 +42,15 @@ LIGHT_WAY = 27_000
 
 @public
 class SpanNotHeld(WrongFiles):
-    """The files do not hold all of the span of an almanac."""
+    """The files do not hold all of the span of an almanac.
+
+    >>> import finder
+    >>> try:
+    ...     finder.almanac("examples/de405-2000.asc", "2001", "2002", groups="seasons")
+    ... except finder.SpanNotHeld as error:
+    ...     print(str(error)[:14])
+    the files hold
+    """
 
 
 def groups_of(groups: Union[Group, str, Iterable[Union[Group, str]]]) -> tuple[Group, ...]:
@@ -119,6 +127,12 @@ def almanac(
     `jobs` of them at once; `progress` is called with the number of searches that are done. It wants the package erfa,
     which comes with astropy: `NoErfa` if it is missing. A `ValueError` names the files that are not one series, and
     `SpanNotHeld` says that they do not hold the span, before any search.
+
+    >>> import finder
+    >>> year = "examples/de405-2000.asc"
+    >>> made = finder.almanac(year, "2000-03-01", "2000-04-01", groups="seasons")
+    >>> [entry.name for entry in made.entries]
+    ['March equinox']
     """
     first, last = (ticks_of_time(time, 1_000, up=False) / 1_000 for time in (start, end))
     spot = None if place is None else Place.of(place)

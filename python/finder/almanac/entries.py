@@ -22,7 +22,12 @@ PLANETS = ("mercury", "venus", "mars", "jupiter", "saturn", "uranus", "neptune")
 
 @public
 class Group(Enum):
-    """The groups of entries, by the names that `--only` takes."""
+    """The groups of entries, by the names that `--only` takes.
+
+    >>> import finder
+    >>> [group.value for group in finder.Group][:3]
+    ['moon', 'seasons', 'eclipses']
+    """
 
     MOON = "moon"
     SEASONS = "seasons"
@@ -53,7 +58,12 @@ GROUP_TITLES = {
 
 @public
 class Event(Enum):
-    """What happens. The names up to that of the elongation are those that `finder.names` gives."""
+    """What happens. The names up to that of the elongation are those that `finder.names` gives.
+
+    >>> import finder
+    >>> finder.Event.FULL_MOON.value
+    'full moon'
+    """
 
     NEW_MOON = "new moon"
     FIRST_QUARTER = "first quarter"
@@ -115,7 +125,12 @@ class EclipseKind(Enum):
 
 @public
 class Status(Enum):
-    """How far a moment is proved: its window is certain, or undecided, or it is computed in doubles and has none."""
+    """How far a moment is proved: its window is certain, or undecided, or it is computed in doubles and has none.
+
+    >>> import finder
+    >>> [status.value for status in finder.Status]
+    ['certified', 'undecided', 'computed']
+    """
 
     CERTIFIED = "certified"
     UNDECIDED = "undecided"
@@ -127,7 +142,12 @@ class Status(Enum):
 class Numbers:
     """What is said of an event, in doubles; None where it is not said. The unit ends the name: km, au, degrees (`deg`),
     arc seconds, radii of the Earth. Magnitudes and `gamma` are as almanacs have them: parts of a diameter, and the
-    distance of the shadow's axis from the Earth's centre in its radii, below 0 to the south."""
+    distance of the shadow's axis from the Earth's centre in its radii, below 0 to the south.
+
+    >>> import finder
+    >>> finder.Numbers(distance_km=384_400.0).distance_km
+    384400.0
+    """
 
     distance_km: Optional[float] = None
     distance_au: Optional[float] = None
@@ -153,7 +173,14 @@ class Contact:
 
     `text` says what is searched: of what is seen, or of where bodies are. The window is None for what no search is made
     for, as the greatest of a solar eclipse, whose time is computed in doubles. At a place `altitude` and `azimuth` in
-    degrees say where the body is then, without refraction, and `is_up` whether it is above the horizon."""
+    degrees say where the body is then, without refraction, and `is_up` whether it is above the horizon.
+
+    >>> import finder
+    >>> year = "examples/de405-2000.asc"
+    >>> entry = finder.almanac(year, "2000-03-01", "2000-04-01", groups="seasons").entries[0]
+    >>> entry.contacts[0].window.text()
+    '2000-03-20T07:36:19'
+    """
 
     name: str
     window: Optional[Window]
@@ -180,7 +207,14 @@ class Contact:
 @dataclass(frozen=True)
 class Entry:
     """A line of an almanac: `seconds` is its time as it is seen, and `contacts` are the moments that it rests on, of
-    one window mostly, of several for an eclipse. `text` says the numbers as a line does."""
+    one window mostly, of several for an eclipse. `text` says the numbers as a line does.
+
+    >>> import finder
+    >>> year = "examples/de405-2000.asc"
+    >>> entry = finder.almanac(year, "2000-03-01", "2000-04-01", groups="seasons").entries[0]
+    >>> entry.name, entry.event, entry.status
+    ('March equinox', <Event.MARCH_EQUINOX: 'March equinox'>, <Status.CERTIFIED: 'certified'>)
+    """
 
     group: Group
     event: Event
@@ -235,7 +269,13 @@ class Almanac:
     were looked for, by so many `searches` of the `files`, from `first_searched` to `last_searched`.
 
     An undecided window has an entry, which says so. None is left out. Of a place it has the `place`, its days and weeks,
-    and what UT1 stands on."""
+    and what UT1 stands on.
+
+    >>> import finder
+    >>> year = "examples/de405-2000.asc"
+    >>> finder.almanac(year, "2000-03-01", "2000-04-01", groups="seasons")
+    <'Almanac': 1 entries of 3 searches>
+    """
 
     title: str
     start: float

@@ -55,7 +55,13 @@ def names(
     New and full moons, inferior and superior conjunctions are those in ecliptic longitude (`frame="ecl"`); what is of
     the equator says so: `conjunction in right ascension`. With `east`, which `values` gives, a greatest elongation has
     its side. An undecided window is `undecided`, since nothing is proved of it; with the `turn` of what `seen` gave it
-    has the name of the time that was found, which is as unproved as that."""
+    has the name of the time that was found, which is as unproved as that.
+
+    >>> import finder
+    >>> year = "examples/de405-2000.asc"
+    >>> finder.names(finder.apsides(year, "moon", "2000-01-01", "2000-02-01", observer="earth"))
+    ['apogee', 'perigee']
+    """
     if not isinstance(found, Windows):
         raise TypeError(f"the windows of a search are wanted, and not {type(found).__name__}")
     rise, fall = pair_of(found.asked)

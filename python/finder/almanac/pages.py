@@ -16,7 +16,12 @@ from .tables import csv_of, json_of, text_of
 
 @public
 class Format(Enum):
-    """A form of an almanac, by the names that `--format` takes."""
+    """A form of an almanac, by the names that `--format` takes.
+
+    >>> import finder
+    >>> [form.value for form in finder.Format]
+    ['text', 'html', 'csv', 'json', 'ics']
+    """
 
     TEXT = "text"
     HTML = "html"
@@ -30,7 +35,14 @@ MAKERS = {Format.TEXT: text_of, Format.HTML: html_of, Format.CSV: csv_of, Format
 
 @public
 def page(found: Almanac, form: Union[Format, str] = Format.TEXT, clock: Clock = Clock()) -> str:
-    """An almanac in a form, as `"html"`, with its times by a clock, which is UTC unless another is given."""
+    """An almanac in a form, as `"html"`, with its times by a clock, which is UTC unless another is given.
+
+    >>> import finder
+    >>> year = "examples/de405-2000.asc"
+    >>> made = finder.almanac(year, "2000-03-01", "2000-04-01", groups="seasons")
+    >>> finder.page(made, "csv").splitlines()[0].split(",")[:3]
+    ['group', 'event', 'name']
+    """
     if not isinstance(form, Format):
         one_of("format", form, [each.value for each in Format])
     return MAKERS[Format(form)](found, clock)

@@ -7,13 +7,11 @@ from collections.abc import Iterator
 from dataclasses import dataclass
 from typing import Any, Optional
 
-from ..reports.calendar import DAY
-from .files import BLOCK, DATES, HEAD_END, SIZE, number_of
+from .files import BLOCK, DATES, HEAD_END, SIZE, number_of, seconds_of
 from .sources import SourceFile, WrongSource
 from .text import COLUMNS, MAX_BLOCKS, span_text
 from .writing import MAX_BYTES, date_text, title_lines
 
-J2000_DATE = 2_451_545
 SPAN_GROUP = re.compile(rb"(GROUP[ \t]+1030[ \t]*\r?\n\s*)(\S+[ \t]+\S+)")
 TITLE_GROUP = re.compile(rb"GROUP[ \t]+1010[ \t]*\r?\n(.*?)\n(?=[ \t]*(?:\r?\n[ \t]*)*GROUP[ \t]+1030)", re.DOTALL)
 
@@ -121,7 +119,7 @@ class AsciiSource:
         if found is None:
             raise WrongSource(f"{self.header_file.name} has a header without groups 1010 and 1030: copy it anew")
         lines = "".join(f"\n{line}" for line in title_lines(titles)).encode()
-        return made[: found.end(1)].rstrip() + lines + b"\n" + made[found.end(1) :].lstrip(b"\r").removeprefix(b"")
+        return made[: found.end(1)].rstrip() + lines + b"\n" + made[found.end(1) :].lstrip(b"\r")
 
 
 def read(files: list[SourceFile]) -> AsciiSource:
@@ -187,7 +185,7 @@ def _blocks(file: SourceFile, after: int, count: int) -> Iterator[Block]:
 def _seconds(word: bytes, file: SourceFile) -> int:
     """The seconds since J2000 of a Julian date of a block."""
     try:
-        return round((number_of(word.decode("ascii", "replace")) - J2000_DATE) * DAY)
+        return round(seconds_of(number_of(word.decode("ascii", "replace"))))
     except ValueError:
         raise WrongSource(f"{file.name} has a block that begins with {word!r} and no date: copy it anew") from None
 

@@ -176,6 +176,11 @@ class Ephemeris:
         return tuple(self._kept.about.get("frames", ("eq", "ecl")))
 
     @property
+    def is_apparent(self) -> bool:
+        """Whether places are as they are seen: those of a sky are."""
+        return "sky" in self._kept.about
+
+    @property
     def start(self) -> int:
         """The start of the first block, in seconds of TDB since J2000."""
         return int(self._kept.about["start"])

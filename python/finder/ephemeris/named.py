@@ -121,3 +121,12 @@ def names_of(files: Files) -> dict[str, str]:
 def bodies_of(asked: Mapping[str, str], names: Mapping[str, str]) -> dict[str, str]:
     """Target, second body and observer of a request by the names of an `Ephemeris`; what is not there is left out."""
     return {role: names.get(asked[role], asked[role]) for role in BODIES if asked.get(role, "-") != "-"}
+
+
+def refuse_sky(files: Any, function: str) -> None:
+    """Refuses the text of a sky where geometric places are wanted."""
+    if getattr(files, "is_apparent", False):
+        raise ValueError(
+            f"finder.{function} is of geometric places, and those of a sky are as they are seen: the windows of a search "
+            "of it are the times, and its places(body, seconds) gives where a body is"
+        )

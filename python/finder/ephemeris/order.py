@@ -29,7 +29,15 @@ LONGEST = 268_435_456
 
 @public
 class WrongFiles(ValueError):
-    """Files that are not one series in order of time, with the header first, or that do not reach into a span."""
+    """Files that are not one series in order of time, with the header first, or that do not reach into a span.
+
+    >>> import finder
+    >>> try:
+    ...     finder.check("examples")
+    ... except finder.WrongFiles as error:
+    ...     print(str(error).partition(",")[0])
+    the folder examples has 8 headers
+    """
 
 
 class Days(NamedTuple):

@@ -40,6 +40,11 @@ class Series:
     of which there are no places, but NaN; `files_start` and `files_end` those of the files. `WrongFiles`, a ValueError,
     names the file where no header stands first, files are of two series or not in order of time, or have nothing of the
     span.
+
+    >>> import finder
+    >>> series = finder.Series("examples/de405-2000.asc")
+    >>> series.body("moon", 0.0).round().ravel().tolist()
+    [-27858242.0, 132094712.0, 57342544.0]
     """
 
     start: float

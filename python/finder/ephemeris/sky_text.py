@@ -11,7 +11,6 @@ import numpy as np
 from ..public import public
 from ..reports.calendar import DAY
 from ..searches.times import Time
-from ..seen.apparent import erfa_package
 from ..seen.vectors import Floats
 from ..sky.earth_rotation import EarthRotation, earth_rotation
 from ..sky.place import Place, PlaceLike

@@ -43,7 +43,12 @@ class Form(enum.Enum):
 
 @public
 class WrongSource(ValueError):
-    """A source that cannot be read: the file is named, what it is, and what to do."""
+    """A source that cannot be read: the file is named, what it is, and what to do.
+
+    >>> import finder
+    >>> issubclass(finder.WrongSource, ValueError)
+    True
+    """
 
 
 @dataclass(frozen=True)

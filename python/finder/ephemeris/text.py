@@ -31,7 +31,12 @@ LAST_SECOND = (5_000_000 - 2_451_545) * DAY
 
 @public
 class WrongText(ValueError):
-    """A motion that the format cannot hold: the body or the span is named, and what to do."""
+    """A motion that the format cannot hold: the body or the span is named, and what to do.
+
+    >>> import finder
+    >>> issubclass(finder.WrongText, ValueError)
+    True
+    """
 
 
 def time_text(seconds: float) -> str:

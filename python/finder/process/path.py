@@ -11,11 +11,40 @@ from ..public import public
 
 # The program as it is shipped, and as an installed package has it.
 PROGRAM = "finder-x86_64-linux"
+# As many bytes of a script tell what runs it: pip names a long path of an interpreter on its second line.
+BEGIN = 400
 
 
 @public
 class NoProgram(OSError):
-    """There is no command `finder` to run."""
+    """There is no command `finder` to run.
+
+    >>> import finder
+    >>> try:
+    ...     finder.check("examples/de405-2000.asc", program="/no/finder")
+    ... except finder.NoProgram as error:
+    ...     print(error.strerror)
+    /no/finder cannot be run: No such file or directory
+    """
+
+
+def _on_path() -> Optional[str]:
+    """The first `finder` on the path that is no script of Python: such a one is this package's own command."""
+    for folder in os.get_exec_path():
+        found = shutil.which("finder", path=folder)
+        if found and not _is_python(found):
+            return found
+    return None
+
+
+def _is_python(name: str) -> bool:
+    """Whether a file is a script of Python; one that may be run and not read is none."""
+    try:
+        with open(name, "rb") as file:
+            begin = file.read(BEGIN)
+    except OSError:
+        return False
+    return begin.startswith(b"#!") and b"python" in begin
 
 
 def find_program(named: Optional[Union[str, os.PathLike[str]]] = None) -> str:
@@ -30,7 +59,7 @@ def find_program(named: Optional[Union[str, os.PathLike[str]]] = None) -> str:
     top = here.parent.parent
     if (top / "finder").is_file() and (top / "release" / "common").is_file():
         return str(top / "finder")
-    found = shutil.which("finder")
+    found = _on_path()
     if not found:
         raise NoProgram("there is no command finder: name it, by $FINDER too, or put it on the path")
     return found

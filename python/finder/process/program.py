@@ -82,12 +82,28 @@ class FinderError(Exception):
 
 @public
 class WordsRefused(FinderError, ValueError):
-    """Status 2: the command line is invalid."""
+    """Status 2: the command line is invalid.
+
+    >>> import finder
+    >>> try:
+    ...     finder.find("examples/de405-2000.asc", "sep", "moon", "sun", observer="earth")
+    ... except finder.WordsRefused as error:
+    ...     print(error.line)
+    finder: words: 63 BadValue ref
+    """
 
 
 @public
 class FileFault(FinderError, ValueError):
-    """Status 3: the files have a fault, which is at a line of a file."""
+    """Status 3: the files have a fault, which is at a line of a file.
+
+    >>> import finder
+    >>> try:
+    ...     finder.check("README.md")
+    ... except finder.FileFault as error:
+    ...     print(error.line, error.line_number)
+    finder: file README.md line 1: 10 FirstLine 1
+    """
 
     @property
     def file(self) -> Optional[str]:
@@ -104,37 +120,87 @@ class FileFault(FinderError, ValueError):
 
 @public
 class ReadFailed(FinderError, OSError):
-    """Status 4: a file is not there, may not be read, or a read failed."""
+    """Status 4: a file is not there, may not be read, or a read failed.
+
+    >>> import finder
+    >>> try:
+    ...     finder.check("no-file")
+    ... except finder.ReadFailed as error:
+    ...     print(error.line)
+    finder: read fault no-file
+    """
 
 
 @public
 class WriteFailed(FinderError, OSError):
-    """Status 5: the pipe to this process failed."""
+    """Status 5: the pipe to this process failed.
+
+    >>> import finder
+    >>> issubclass(finder.WriteFailed, (finder.FinderError, OSError))
+    True
+    """
 
 
 @public
 class SpanRefused(FinderError, ValueError):
-    """Status 6: the span holds no tick, or is not within the files."""
+    """Status 6: the span holds no tick, or is not within the files.
+
+    >>> import finder
+    >>> try:
+    ...     finder.apsides("examples/de405-2000.asc", "moon", "2000-06-01", "2000-05-01", observer="earth")
+    ... except finder.SpanRefused as error:
+    ...     print(error.hint)
+    start=2000-06-01T00:00:00 is not before end=2000-05-01T00:00:00 (TDB)
+    """
 
 
 @public
 class EventRefused(FinderError, ValueError):
-    """Status 7: the files do not have this event."""
+    """Status 7: the files do not have this event.
+
+    >>> import finder
+    >>> try:
+    ...     finder.apsides("examples/de405-2000.asc", "moon", observer="moon")
+    ... except finder.EventRefused as error:
+    ...     print(error.hint)
+    target= and observer= are one body, 'moon'
+    """
 
 
 @public
 class OutOfMemory(FinderError, MemoryError):
-    """Status 8: there was no memory."""
+    """Status 8: there was no memory.
+
+    >>> import finder
+    >>> issubclass(finder.OutOfMemory, MemoryError)
+    True
+    """
 
 
 @public
 class TooManyLeaves(FinderError, ValueError):
-    """Status 9: the search has more leaves than a search may have."""
+    """Status 9: the search has more leaves than a search may have.
+
+    >>> import finder
+    >>> issubclass(finder.TooManyLeaves, ValueError)
+    True
+    """
 
 
 @public
 class CertificateRefused(FinderError, ValueError):
-    """Status 10: a line of a certificate breaks a rule, the first of its lines that does."""
+    """Status 10: a line of a certificate breaks a rule, the first of its lines that does.
+
+    >>> import finder
+    >>> year = "examples/de405-2000.asc"
+    >>> made = finder.certificate(year, "apsis", "earth", observer="sun")
+    >>> wrong = finder.Certificate.of_text(made.text.replace(" N", " F", 1))
+    >>> try:
+    ...     finder.verify(year, wrong)
+    ... except finder.CertificateRefused as error:
+    ...     print(error.line)
+    finder: certificate line 3: 73 CertMark
+    """
 
     @property
     def line_number(self) -> Optional[int]:
@@ -145,12 +211,25 @@ class CertificateRefused(FinderError, ValueError):
 
 @public
 class Interrupted(FinderError):
-    """The process was ended by a signal, whose number is `-status`."""
+    """The process was ended by a signal, whose number is `-status`.
+
+    >>> import finder
+    >>> issubclass(finder.Interrupted, finder.FinderError)
+    True
+    """
 
 
 @public
 class TimedOut(FinderError, TimeoutError):
-    """The search took longer than its `timeout`, and was ended."""
+    """The search took longer than its `timeout`, and was ended.
+
+    >>> import finder
+    >>> try:
+    ...     finder.check("examples/de405-2000.asc", timeout=0)
+    ... except finder.TimedOut as error:
+    ...     print(error.line)
+    finder: not done after 0 seconds
+    """
 
     @property
     def hint(self) -> str:

@@ -15,7 +15,15 @@ TIME = re.compile(r"([0-9]{4}|-[0-9]{6})-([0-9]{2})-([0-9]{2})T([0-9]{2}):([0-9]
 
 @public
 class WrongReport(ValueError):
-    """A text that is no whole report of `finder`."""
+    """A text that is no whole report of `finder`.
+
+    >>> import finder
+    >>> try:
+    ...     finder.Windows.of_text("no report")
+    ... except finder.WrongReport as error:
+    ...     print(error)
+    the last line is cut off
+    """
 
 
 def days_of(year: int, month: int, day: int) -> int:

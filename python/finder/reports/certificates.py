@@ -33,6 +33,12 @@ class Certificate:
 
     `sha256` is the SHA-256 of the text of the `Ephemeris` that was searched, `names` are its names by the words of the
     program, and `save` writes the text beside the certificate. Of files they are empty.
+
+    >>> import finder
+    >>> year = "examples/de405-2000.asc"
+    >>> made = finder.certificate(year, "apsis", "earth", observer="sun")
+    >>> made.request.split()[:4], len(finder.verify(year, made).windows)
+    (['FIND', 'apsis', 'target', 'earth'], 3)
     """
 
     report: spans.CertificateText
@@ -124,7 +130,14 @@ class Certificate:
 @public
 @dataclass(frozen=True)
 class Verified:
-    """What `verify` says of a certificate that breaks no rule: the windows of its pieces, and their number."""
+    """What `verify` says of a certificate that breaks no rule: the windows of its pieces, and their number.
+
+    >>> import finder
+    >>> year = "examples/de405-2000.asc"
+    >>> found = finder.verify(year, finder.certificate(year, "apsis", "earth", observer="sun"))
+    >>> finder.names(found.windows)
+    ['perihelion', 'aphelion', 'perihelion']
+    """
 
     windows: Windows
     leaves: int

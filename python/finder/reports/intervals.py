@@ -27,6 +27,13 @@ class Interval:
     `begin` is the window before, or None where the span begins, and `end` the one after, or None where it ends. `on` is
     True; where it is not known whether it lasts it is None. With `proved` this follows from a certain window at one end
     at least, else from the function's sign in doubles, or nothing is known. An undecided window parts two intervals.
+
+    >>> import finder
+    >>> year = "examples/de405-2000.asc"
+    >>> near = finder.separation(year, "venus", "jupiter", degrees=1, observer="earth")
+    >>> interval = finder.intervals(near)[0]
+    >>> interval.on, interval.proved, interval.has(11_800_000)
+    (True, True, True)
     """
 
     begin: Optional[Window]
@@ -61,6 +68,12 @@ def intervals(
     begins with None; where the last is a rise the last one ends with None. Where no window tells, as where nothing was
     found, the sign is taken of the `files` in doubles, and the interval is not `proved`; without files an interval says
     with `on=None` that it is not known.
+
+    >>> import finder
+    >>> year = "examples/de405-2000.asc"
+    >>> near = finder.separation(year, "venus", "jupiter", degrees=1, observer="earth")
+    >>> [(each.begin.text(), each.end.text()) for each in finder.intervals(near)]
+    [('2000-05-16T10:14:47', '2000-05-18T10:35:20')]
     """
     turns = _turns(found)
     rows: list[Optional[Window]] = [None, *found, None]
@@ -84,7 +97,13 @@ def intervals(
 @public
 def on_at_start(found: Windows, files: Optional[Files] = None, *, series: Optional[Series] = None) -> Optional[bool]:
     """Whether the function of a search for both directions is 0 or more at the start of its span: by the first window
-    where that is certain, which is proved; else in doubles of the files, which is not; None without files."""
+    where that is certain, which is proved; else in doubles of the files, which is not; None without files.
+
+    >>> import finder
+    >>> year = "examples/de405-2000.asc"
+    >>> finder.on_at_start(finder.separation(year, "venus", "jupiter", degrees=1, observer="earth"))
+    False
+    """
     turns = _turns(found)
     if turns and turns[0]:
         return turns[0] == "fall"

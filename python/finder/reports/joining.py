@@ -15,7 +15,18 @@ MADE_OF = {"earth": ("emb", "moon"), "moon": ("emb", "moon"), "ssb": ()}
 
 @public
 class WrongParts(ValueError):
-    """Reports or files that are not those of neighbouring spans of one search."""
+    """Reports or files that are not those of neighbouring spans of one search.
+
+    >>> import finder
+    >>> year = "examples/de405-2000.asc"
+    >>> months = ("2000-02", "2000-03"), ("2000-04", "2000-05")
+    >>> parts = [finder.apsides(year, "moon", *month, observer="earth") for month in months]
+    >>> try:
+    ...     finder.join(parts)
+    ... except finder.WrongParts as error:
+    ...     print(str(error)[-11:])
+    do not meet
+    """
 
 
 def _in_order(parts: Iterable[T]) -> list[T]:

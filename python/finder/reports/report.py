@@ -139,7 +139,13 @@ Part = Union[Report, SetReport, CertificateText]
 @dataclass(frozen=True)
 class Summary:
     """What `finder check` prints of files: seconds since J2000 (TDB) at which they begin and end, the seconds of a
-    block, how many blocks there are and numbers in each, and for each column its coefficients and its granules."""
+    block, how many blocks there are and numbers in each, and for each column its coefficients and its granules.
+
+    >>> import finder
+    >>> found = finder.check("examples/de405-2000.asc")
+    >>> found.end - found.start == found.block * found.blocks
+    True
+    """
 
     start: int
     end: int

@@ -19,12 +19,28 @@ from .table import SHOWN, frame_of, html_of, times_of
 
 @public
 class WrongSets(ValueError):
-    """Sets of different spans or ticks, of which no set is made."""
+    """Sets of different spans or ticks, of which no set is made.
+
+    >>> import finder
+    >>> year = "examples/de405-2000.asc"
+    >>> one, other = (finder.retrograde(year, "mars", tick=tick, observer="earth") for tick in (1, 1000))
+    >>> try:
+    ...     one & other
+    ... except finder.WrongSets as error:
+    ...     print(error)
+    sets of different ticks: 1 and 1000 in a second
+    """
 
 
 @public
 class Span(NamedTuple):
-    """Times in a row: the first and the last tick since J2000 (TDB), both of them in it."""
+    """Times in a row: the first and the last tick since J2000 (TDB), both of them in it.
+
+    >>> import finder
+    >>> span = finder.Span(0, 86_400)
+    >>> span.last - span.first
+    86400
+    """
 
     first: int
     last: int
@@ -36,6 +52,11 @@ class Spans(Ends, Sequence[Span]):
 
     `first` and `last` are arrays of int64, ticks since J2000 (TDB) of which `tick` are in a second; both ends of a span
     are in it. A slice holds some of the spans, and `in` looks for a tick in them.
+
+    >>> import finder
+    >>> spans = finder.Spans(1, [0, 100], [60, 160])
+    >>> spans[1], 30 in spans, 80 in spans
+    (Span(first=100, last=160), True, False)
     """
 
     def __init__(self, tick: int, first: Any, last: Any) -> None:
@@ -175,6 +196,13 @@ class TimeSet:
     the span that are not in `a`. The sure times of `a & b` are sure in both and its possible ones possible in both, and
     so with either; the sure times of `~a` are not possible in `a`, and its possible ones are not sure there. So what is
     made keeps both promises. Sets are equal where span, tick, sure and possible times are, whatever the requests.
+
+    >>> import finder
+    >>> year = "examples/de405-2000.asc"
+    >>> near = finder.near(year, "venus", "sun", degrees=10, observer="earth")
+    >>> far = ~near
+    >>> len(near.sure), len(far.sure), len((near & far).sure)
+    (1, 2, 0)
     """
 
     def __init__(

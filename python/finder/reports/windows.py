@@ -20,7 +20,13 @@ from .table import columns_of, frame_of, html_of, lines_of
 @public
 class Window(spans.Window):
     """A window: its first and its last tick since J2000 (TDB), and its turn, which is `rise` or `fall` where it is
-    certain, and None where it is undecided. It is a tuple of these three; `tick` of its ticks are in a second."""
+    certain, and None where it is undecided. It is a tuple of these three; `tick` of its ticks are in a second.
+
+    >>> import finder
+    >>> window = finder.Window(12_801_349, 12_801_349, "fall")
+    >>> window.text(), window.turn
+    ('2000-05-28T15:55:49', 'fall')
+    """
 
     tick: int = 1
 

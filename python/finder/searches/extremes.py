@@ -35,7 +35,15 @@ Margin = Union[Number, Fraction, None]
 
 @public
 class NotProved(ValueError):
-    """The two searches do not prove an extreme to this margin."""
+    """The two searches do not prove an extreme to this margin.
+
+    >>> import finder
+    >>> try:
+    ...     finder.least("examples/de405-2000.asc", "moon", observer="earth", margin=1e6)
+    ... except finder.NotProved as error:
+    ...     print(error)
+    the quantity changes by less than the margin: name a smaller one
+    """
 
 
 @public
@@ -48,6 +56,12 @@ class Extreme:
     the quantity lies beyond `value` by more than `margin`, and at some second it lies short of it by at most the
     margin; all such seconds are in the spans `where`. `beyond` and `short` are the windows of the two searches that
     prove it: the first has none (or is no search, where nothing can lie so far), and the second has certain ones alone.
+
+    >>> import finder
+    >>> year = "examples/de405-2000.asc"
+    >>> nearest = finder.least(year, "mars", observer="earth")
+    >>> nearest.quantity, round(nearest.value), nearest.margin
+    ('distance', 253213816, 1.0)
     """
 
     quantity: str

@@ -67,7 +67,12 @@ def cosine_of_degrees(degrees: Number, *, up: bool = False) -> str:
     over the sine of the angle at most: that is below 10^-10 arc seconds from a quarter of a degree to 179.75 degrees,
     and below 10^-7 from one arc second on. With `up` it is the least decimal that is not below it, and its angle the
     given one or a smaller one. Both are the cosine itself at 0, 60, 90, 120 and 180 degrees, and at no others. A float
-    is taken as the shortest decimal that is it."""
+    is taken as the shortest decimal that is it.
+
+    >>> import finder
+    >>> finder.cosine_of_degrees(30), finder.cosine_of_degrees(60)
+    ('0.866025403784438646', '0.5')
+    """
     try:
         angle = degrees if isinstance(degrees, Fraction) else Fraction(decimal_text(degrees, "deg"))
     except (ValueError, ZeroDivisionError):

@@ -29,7 +29,15 @@ Found = TypeVar("Found", bound=Union[Windows, TimeSet, Certificate])
 def join(parts: Iterable[Found], files: Optional[Summary] = None) -> Found:
     """The windows, the set or the certificate of the whole span, of those of its parts, in order. `WrongParts` where
     they are of different requests, overlap or do not meet. Certificates have to meet at a border, or a tick before one:
-    they want what `check` says of their files, or of one of these."""
+    they want what `check` says of their files, or of one of these.
+
+    >>> import finder
+    >>> year = "examples/de405-2000.asc"
+    >>> months = ("2000-02", "2000-03"), ("2000-03", "2000-04")
+    >>> parts = [finder.apsides(year, "moon", *month, observer="earth") for month in months]
+    >>> finder.join(parts) == finder.apsides(year, "moon", "2000-02", "2000-04", observer="earth")
+    True
+    """
 
     def checked() -> Summary:
         if files is None:
@@ -79,6 +87,12 @@ def over_files(
     given is pickled, and its exceptions come back. The package, the command and the files have to be there under the
     same names: `program` is a name, or $FINDER there. The `timeout` is that of each search. Where one fails, those that
     wait are cancelled, and those that run go on to their end. The executor is not shut down.
+
+    >>> import finder
+    >>> year = "examples/de405-2000.asc"
+    >>> found = finder.over_files(finder.apsides, [year], "earth", observer="sun")
+    >>> len(found)
+    3
     """
     names = file_names(files)
     if not names:

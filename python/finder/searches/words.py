@@ -26,7 +26,16 @@ SHALLOW = 12
 
 @public
 class BarycentreWarning(UserWarning):
-    """A search from the barycentre of the solar system, which nobody named, for what is asked from a planet."""
+    """A search from the barycentre of the solar system, which nobody named, for what is asked from a planet.
+
+    >>> import finder
+    >>> import warnings
+    >>> with warnings.catch_warnings(record=True) as caught:
+    ...     warnings.simplefilter("always")
+    ...     found = finder.stations("examples/de405-2000.asc", "mars", end="2000-03-01")
+    >>> caught[0].category.__name__
+    'BarycentreWarning'
+    """
 
 
 def one_of(what: str, value: Any, allowed: Sequence[str]) -> None:

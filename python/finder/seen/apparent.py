@@ -15,9 +15,9 @@ from ..searches.words import one_of
 from .curves import LIGHT
 from .vectors import Floats, floats, length, many
 
-# Twice the Sun's mass in km, 2GM/c^2, and the least of 1 + cos at which light is bent: a body further behind the Sun's
-# disc is not seen at all.
-BENDING = 2.95325
+# The kilometres of an astronomical unit.
+AU = 149_597_870.7
+# The least of 1 + cos at which light is bent: a body further behind the Sun's disc is not seen at all.
 BEHIND = 1e-6
 # Each pass leaves a part of v/c of the fault of a place before: the third some decimetres.
 PASSES = 3
@@ -28,7 +28,12 @@ NODES = np.arange(-2, 4)
 
 @public
 class NoErfa(ImportError):
-    """Equator and equinox of date want the package `erfa` (Debian: python3-erfa; pip: pyerfa), as astropy does."""
+    """Bodies as they are seen, axes of date and UTC want the package `erfa` (Debian: python3-erfa; pip: pyerfa).
+
+    >>> import finder
+    >>> issubclass(finder.NoErfa, ImportError)
+    True
+    """
 
 
 def erfa_package() -> Any:
@@ -37,8 +42,8 @@ def erfa_package() -> Any:
         import erfa
     except ImportError:
         raise NoErfa(
-            "the equator and equinox of date, and UTC, want the package erfa (pip: pyerfa, Debian: python3-erfa; it "
-            "comes with astropy); with of_date=False directions are those of J2000, which want none"
+            "bodies as they are seen, the axes of date and UTC want the package erfa (pip: pyerfa, Debian: "
+            "python3-erfa; it comes with astropy); geometric places want none"
         ) from None
     return erfa
 
@@ -108,13 +113,19 @@ class ApparentPlaces:
     """Places of bodies as they are seen from one another, in doubles and unproved.
 
     Each is where the body was when its light set out, turned by aberration, and with `bending` bent by the Sun's mass.
-    With `of_date`, which wants erfa, it is on the axes of date, for files whose axes are those of the ICRS, as those of
+    It wants erfa. With `of_date` it is on the axes of date, for files whose axes are those of the ICRS, as those of
     JPL's files have been since DE403; without it on the axes of the file, or the ecliptic of J2000.
+
+    >>> import finder
+    >>> year = "examples/de405-2000.asc"
+    >>> places = finder.ApparentPlaces(finder.Series(year), of_date=False)
+    >>> places.light("sun", "earth", 0.0).round(1)
+    array([490.7])
     """
 
     def __init__(self, series: Series, of_date: bool = True, bending: bool = True) -> None:
+        erfa_package()
         if of_date:
-            erfa_package()
             check_axes(series.number, "of_date=False gives places on the axes of the files")
         self._series = series
         self._of_date = of_date
@@ -165,7 +176,7 @@ class ApparentPlaces:
         toward = place / far
         if self._bending and target != "sun" and observer not in ("sun", "ssb"):
             toward = _bent(toward, here, place, self._series.body("sun", at - delay))
-        toward = _aberrated(toward, speed)
+        toward = _aberrated(toward, speed, here, self._series.body("sun", at))
         if self._of_date:
             frames = self._kept(frame, at, lambda: frames_of_date(frame, at))
             return floats(np.einsum("nij,jn->in", frames, toward * far))
@@ -173,19 +184,18 @@ class ApparentPlaces:
 
 
 def _bent(toward: Floats, here: Floats, place: Floats, sun: Floats) -> Floats:
-    """A direction, bent by the mass of the Sun (Explanatory Supplement to the Astronomical Almanac, 7.2.4)."""
+    """A direction, bent by the mass of the Sun, as erfa has it (Explanatory Supplement to the Astronomical Almanac,
+    7.2.4): by the Sun as it was when the light passed it."""
     to_here, to_body = here - sun, here + place - sun
     near = length(to_here)
-    e, q = to_here / near, to_body / length(to_body)
-    room = np.maximum(1 + (q * e).sum(axis=0), BEHIND)
-    shift = ((toward * q).sum(axis=0) * e - (e * toward).sum(axis=0) * q) * (BENDING / near / room)
-    made = toward + shift
-    return floats(made / length(made))
+    rows = (np.ascontiguousarray(each.T) for each in (toward, to_body / length(to_body), to_here / near))
+    return floats(erfa_package().ld(1.0, *rows, near / AU, BEHIND).T)
 
 
-def _aberrated(toward: Floats, speed: Floats) -> Floats:
+def _aberrated(toward: Floats, speed: Floats, here: Floats, sun: Floats) -> Floats:
     """A direction as an observer at a speed, in units of that of light, sees it."""
+    near = length(here - sun)
+    # (on the Sun itself its potential is left out)
+    far = np.where(near > 0, near / AU, 1.0)
     slow = np.sqrt(1 - (speed**2).sum(axis=0))
-    along = (toward * speed).sum(axis=0)
-    made = toward * slow + (1 + along / (1 + slow)) * speed
-    return floats(made / length(made))
+    return floats(erfa_package().ab(np.ascontiguousarray(toward.T), np.ascontiguousarray(speed.T), far, slow).T)

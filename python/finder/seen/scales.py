@@ -25,7 +25,12 @@ FIRST_UTC_YEAR = 1972
 
 @public
 class Scale(Enum):
-    """A scale of time."""
+    """A scale of time.
+
+    >>> import finder
+    >>> [scale.value for scale in finder.Scale]
+    ['utc', 'tt', 'tdb']
+    """
 
     UTC = "utc"
     TT = "tt"

@@ -13,6 +13,7 @@ import numpy as np
 import numpy.typing as npt
 
 from .. import spans
+from ..ephemeris.named import refuse_sky
 from ..ephemeris.names import Files
 from ..ephemeris.order import J2000_DATE
 from ..ephemeris.series import Series
@@ -72,6 +73,13 @@ class Seen:
     `seconds` are those since J2000 (TDB), NaN where no time was found near the window; `missing` is the mask of these,
     and `reasons` says of each why, or is the empty text. `turn` is that of each window, and of an undecided one that of
     the time that was found for it, as unproved as that.
+
+    >>> import finder
+    >>> year = "examples/de405-2000.asc"
+    >>> found = finder.conjunctions(year, "moon", "sun", "2000-01-01", "2000-02-01", observer="earth", frame="ecl")
+    >>> seen = finder.seen(found)
+    >>> print(seen.utc.iso, seen.later.round(1))
+    ['2000-01-06 18:13:38.123'] [-44.2]
     """
 
     def __init__(self, found: Windows, seconds: Floats, turn: npt.NDArray[np.str_], reasons: tuple[str, ...]) -> None:
@@ -180,8 +188,15 @@ def seen(
     files end within light time of it, a graze may be no event for bodies as they are seen, two bodies that move almost
     alike may be seen to meet once where their places meet three times, and an undecided window of more than a minute is
     not looked at. What is seen without a window near it is not found here.
+
+    >>> import finder
+    >>> year = "examples/de405-2000.asc"
+    >>> found = finder.oppositions(year, "moon", end="2000-02-01", observer="earth", frame="ecl")
+    >>> print(finder.seen(found).utc.iso)
+    ['2000-01-21 04:40:26.328']
     """
     _refuse(found, phases)
+    refuse_sky(found.files if files is None else files, "seen")
     if len(found) == 0:
         return Seen(found, np.empty(0), found.turn, ())
     asked = found.asked

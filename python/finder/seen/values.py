@@ -10,6 +10,7 @@ import numpy as np
 import numpy.typing as npt
 
 from .. import spans
+from ..ephemeris.named import refuse_sky
 from ..ephemeris.names import Files
 from ..ephemeris.order import J2000_DATE
 from ..ephemeris.series import Series
@@ -30,7 +31,15 @@ PLACE_UNITS = {"distance_km": "km", "distance_au": "AU", "ra": "deg", "dec": "de
 @dataclass(frozen=True)
 class Coordinates:
     """Where a body is from the observer, as arrays with a number for each window: `distance_km`, and in degrees `ra` (0
-    to 360) and `dec` of the equator, `lon` (0 to 360) and `lat` of the ecliptic."""
+    to 360) and `dec` of the equator, `lon` (0 to 360) and `lat` of the ecliptic.
+
+    >>> import finder
+    >>> year = "examples/de405-2000.asc"
+    >>> found = finder.oppositions(year, "jupiter", observer="earth", frame="ecl")
+    >>> where = finder.values(found).target
+    >>> where.body, where.distance_au.round(3), where.lon.round(2)
+    ('jupiter', array([4.05]), array([66.14]))
+    """
 
     body: str
     distance_km: Floats
@@ -56,6 +65,13 @@ class Values:
     the Sun and the barycentre. `function` is the request's function, in `unit`: about 0 at an event, above 0 after a
     rise. `apparent` says whether these are places as they are seen, and `of_date` whether they are on axes of date.
     Where a time is missing numbers are NaN, and `east` is False.
+
+    >>> import finder
+    >>> year = "examples/de405-2000.asc"
+    >>> found = finder.oppositions(year, "jupiter", observer="earth", frame="ecl")
+    >>> numbers = finder.values(found)
+    >>> numbers.target.distance_au.round(3), numbers.elongation.round(1), len(numbers)
+    (array([4.05]), array([179.1]), 1)
     """
 
     seconds: Floats
@@ -141,9 +157,16 @@ def values(
     seconds since J2000 (TDB), one for each window. Places are geometric, as the search's are, on the axes of J2000;
     with `apparent` they are those of bodies as they are seen, and with `of_date` on the axes of date, which is for
     `apparent` ones alone and wants erfa. Where a time is missing, or the files have no place, numbers are NaN.
+
+    >>> import finder
+    >>> year = "examples/de405-2000.asc"
+    >>> best = finder.separation_extremes(year, "mercury", "sun", end="2000-04-01", observer="earth", dir="rise")
+    >>> finder.values(best).elongation.round(1)
+    array([18.1, 27.8])
     """
     if not isinstance(found, Windows):
         raise TypeError(f"the windows of a search are wanted, and not {type(found).__name__}")
+    refuse_sky(found.files if files is None else files, "values")
     if of_date and not apparent:
         raise ValueError("places of date are those of bodies as they are seen: apparent=True, of_date=True")
     seconds = middles(found) if at is None else at.seconds if isinstance(at, Seen) else floats(at)

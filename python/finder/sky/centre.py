@@ -57,7 +57,14 @@ def _always(name: str) -> Naming:
 @dataclass(frozen=True)
 class Meeting(Moment):
     """Two bodies at one right ascension of date: `body` and the `second` one, `separation` degrees apart, and the second
-    one is north of the other where `is_north`."""
+    one is north of the other where `is_north`.
+
+    >>> import finder
+    >>> eph = finder.Ephemeris.open("examples/de405-2000.asc")
+    >>> sky = eph.sky(start="2000-05-20", end="2000-06-10")
+    >>> [meeting.name for meeting in sky.meetings() if "Saturn" in meeting.name]
+    ['Jupiter meets Saturn']
+    """
 
     second: str = ""
     separation: float = float("nan")

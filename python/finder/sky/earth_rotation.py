@@ -85,6 +85,11 @@ class EarthRotation:
 
     `source` names the table, the number or the rule. `start` and `end` are the ends of the table in seconds since J2000
     (TT): outside of them delta T is extrapolated. A number that was given has no ends.
+
+    >>> import finder
+    >>> rotation = finder.EarthRotation.of_number(69)
+    >>> rotation.delta_t([0.0]).tolist()
+    [69.0]
     """
 
     source: str

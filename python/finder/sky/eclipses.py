@@ -38,6 +38,13 @@ class LocalEclipse:
     transit. Each has the altitude of the Sun or the Moon, and says whether it `is_up`. `magnitude` is the part of a
     diameter that is covered at the greatest, of the Moon that in the umbra, or for a penumbral one in the penumbra;
     `obscuration` is the part of the Sun's disc. Both are doubles.
+
+    >>> import finder
+    >>> eph = finder.Ephemeris.open("examples/de405-2000.asc")
+    >>> sky = eph.sky("51.4769 N 0 E 46 m", "2000-01-20", "2000-01-23")
+    >>> eclipse = sky.eclipses()[0]
+    >>> eclipse.sort.value, eclipse.kind, len(eclipse.contacts)
+    ('lunar eclipse', 'total', 7)
     """
 
     sort: Sort

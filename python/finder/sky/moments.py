@@ -35,6 +35,13 @@ class Moment:
     that has no window, as that of a greatest magnitude, is computed in doubles. `altitude` and `azimuth` are those of the
     centre of the body then, in degrees, without refraction, and NaN where there is no place; they are doubles too.
     `is_within` is None where a set of times was named by `within=` and it is not sure that the moment lies in it.
+
+    >>> import finder
+    >>> eph = finder.Ephemeris.open("examples/de405-2000.asc")
+    >>> sky = eph.sky("51.4769 N 0 E 46 m", "2000-01-20", "2000-01-23")
+    >>> moment = sky.rises("sun")[0]
+    >>> moment.name, moment.body, moment.compass
+    ('sunrise', 'sun', 'ESE')
     """
 
     name: str

@@ -22,7 +22,15 @@ MONTH = re.compile(r"(?P<year>-?[0-9]{1,5})-(?P<month>[0-9]{2})")
 @dataclass(frozen=True)
 class Night:
     """A night, from the local mean noon of `date` to the next one, and the spans of a set in it: the `sure` ones, in
-    each of which all times are in the set, and the `possible` ones, outside of which none is."""
+    each of which all times are in the set, and the `possible` ones, outside of which none is.
+
+    >>> import finder
+    >>> eph = finder.Ephemeris.open("examples/de405-2000.asc")
+    >>> sky = eph.sky("51.4769 N 0 E 46 m", "2000-01-20", "2000-01-23")
+    >>> night = sky.nights(sky.dark())[1]
+    >>> print(night.date, night.sure)
+    2000-01-20 <Spans: 2000-01-20T18:27:30 2000-01-21T05:56:08>
+    """
 
     date: datetime.date
     sure: Spans
@@ -36,7 +44,14 @@ class Night:
 
 @public
 class Nights(Sequence[Night]):
-    """The nights of a span in order, with times by a clock."""
+    """The nights of a span in order, with times by a clock.
+
+    >>> import finder
+    >>> eph = finder.Ephemeris.open("examples/de405-2000.asc")
+    >>> sky = eph.sky("51.4769 N 0 E 46 m", "2000-01-20", "2000-01-23")
+    >>> len(sky.nights(sky.dark()))
+    4
+    """
 
     def __init__(self, nights: Sequence[Night], clock: Clock) -> None:
         self._nights = tuple(nights)

@@ -23,7 +23,14 @@ STAR = ("disappears", "reappears")
 class Occultation:
     """The Moon covers a body, as a place sees it. `contacts` are its moments in order; each has the altitude of the body
     and says whether it `is_up`; `sun_altitudes` are those of the Sun then, in degrees. `elongation` is the angle from the
-    Sun in degrees at the middle. Of a graze, in which a disc is not wholly covered, there are the outer contacts."""
+    Sun in degrees at the middle. Of a graze, in which a disc is not wholly covered, there are the outer contacts.
+
+    >>> import finder
+    >>> eph = finder.Ephemeris.open("examples/de405-2000.asc")
+    >>> sky = eph.sky("51.4769 N 0 E 46 m", "2000-07-01", "2000-07-31")
+    >>> [(each.body, len(each.contacts)) for each in sky.occultations()]
+    [('mercury', 4)]
+    """
 
     body: str
     contacts: Moments

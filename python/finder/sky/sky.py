@@ -41,7 +41,12 @@ Made = TypeVar("Made", bound="Sky")
 
 @public
 class NeverReached(UserWarning):
-    """A body does not reach an altitude: the set of times is empty, and that is proved."""
+    """A body does not reach an altitude: the set of times is empty, and that is proved.
+
+    >>> import finder
+    >>> issubclass(finder.NeverReached, Warning), issubclass(finder.NeverReached, Exception)
+    (True, True)
+    """
 
 
 @public

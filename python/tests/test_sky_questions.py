@@ -49,7 +49,7 @@ class Questions(unittest.TestCase):
             self.assertEqual(len(sky.dark().possible), 0)
 
     def test_never_reached(self):
-        with self.assertWarnsRegex(finder.NeverReached, "Jupiter does not reach 80 degrees in this sky: it is at most 5"):
+        with self.assertWarnsRegex(finder.NeverReached, "Jupiter does not reach 80 degrees .* it is at most 5"):
             self.assertEqual(len(sky_of(BERLIN).above("jupiter", 80).possible), 0)
 
     def test_sets_within(self):

@@ -1,5 +1,5 @@
-"""The sky of a place beside Skyfield over the same coefficients and the same delta T. `bench/sky_of_places.py` does so for
-whole years at four places; here are a month at two of them, and a brute force over 30 nights, minute by minute."""
+"""The sky of a place beside Skyfield over the same coefficients and the same delta T. `bench/sky_of_places.py` does so
+for whole years at four places; here are a month at two of them, and a brute force over 30 nights, minute by minute."""
 
 import functools
 import importlib.util
@@ -133,8 +133,8 @@ class BesideSkyfield(unittest.TestCase):
         return made
 
     def test_refraction(self):
-        """Skyfield's refraction is Bennett's formula at all altitudes: within a minute of arc of ours down to the horizon,
-        and within 4 seconds of arc of erfa's from 30 degrees on."""
+        """Skyfield's refraction is Bennett's formula at all altitudes: within a minute of arc of ours down to the
+        horizon, and within 4 seconds of arc of erfa's from 30 degrees on."""
         from skyfield.earthlib import refract
 
         from finder.sky.refraction import refraction

@@ -1,4 +1,5 @@
-"""The Sun and the Moon by day, and planets by week, of a place: what an almanac's tables of days have in their cells."""
+"""The Sun and the Moon by day, and planets by week, of a place: what an almanac's tables of days have in their
+cells."""
 
 from __future__ import annotations
 

@@ -169,7 +169,8 @@ class Numbers:
 @public
 @dataclass(frozen=True)
 class Contact:
-    """A moment of an event: its window, whose search `request` is, and its time in `seconds`, which is the window's own.
+    """A moment of an event: its window, whose search `request` is, and its time in `seconds`, which is the window's
+    own.
 
     `text` says what is searched: of what is seen, or of where bodies are. The window is None for what no search is made
     for, as the greatest of a solar eclipse, whose time is computed in doubles. At a place `altitude` and `azimuth` in
@@ -192,7 +193,8 @@ class Contact:
 
     @property
     def is_up(self) -> Optional[bool]:
-        """Whether the body is above the horizon of the place, lifted by 34' of refraction; None for the Earth's centre."""
+        """Whether the body is above the horizon of the place, lifted by 34' of refraction; None for the Earth's
+        centre."""
         return None if self.altitude is None else self.altitude > -34 / 60
 
     @property
@@ -246,9 +248,9 @@ class Curves:
 
 @dataclass(frozen=True)
 class LocalYear:
-    """What a place sees in the span of an almanac, by its `sky`: the moments of the Sun (`sun`), of the Moon (`moon`) and
-    of each planet, sentences of what does not rise or set (`said`), what UT1 stands on (`rotation`), and by day the part
-    of the Moon's disc that is lit (`lit`, from 0 to 1, at `lit_times`)."""
+    """What a place sees in the span of an almanac, by its `sky`: the moments of the Sun (`sun`), of the Moon (`moon`)
+    and of each planet, sentences of what does not rise or set (`said`), what UT1 stands on (`rotation`), and by day
+    the part of the Moon's disc that is lit (`lit`, from 0 to 1, at `lit_times`)."""
 
     place: Place
     rotation: str
@@ -268,8 +270,8 @@ class Almanac:
     """The entries of a span in order of time, from `start` and before `end`, and what they come from: the `groups` that
     were looked for, by so many `searches` of the `files`, from `first_searched` to `last_searched`.
 
-    An undecided window has an entry, which says so. None is left out. Of a place it has the `place`, its days and weeks,
-    and what UT1 stands on.
+    An undecided window has an entry, which says so. None is left out. Of a place it has the `place`, its days and
+    weeks, and what UT1 stands on.
 
     >>> import finder
     >>> year = "examples/de405-2000.asc"

@@ -5,16 +5,20 @@ Times are seconds of TDB since J2000, 2000-01-01T12:00:00 TDB.
 
 from __future__ import annotations
 
-from collections.abc import Mapping
+from collections.abc import Iterator, Mapping
 from dataclasses import dataclass, field
 from enum import Enum
 from typing import Any, Optional
 
 from ..public import public
+from ..reports.calendar import DAY
 from ..reports.windows import Window
 from ..seen.vectors import Floats
 from ..sky.moments import Moments
 from ..sky.place import Place
+
+# The modified Julian date of J2000.
+DAYS_TO_J2000 = 51_544.5
 
 # The planets of an almanac, in order from the Sun; from Jupiter on they are the barycentres of their systems.
 PLANETS = ("mercury", "venus", "mars", "jupiter", "saturn", "uranus", "neptune")
@@ -294,6 +298,34 @@ class Almanac:
 
     def __repr__(self) -> str:
         return f"<{self.title!r}: {len(self.entries)} entries of {self.searches} searches>"
+
+    def __len__(self) -> int:
+        return len(self.entries)
+
+    def __iter__(self) -> Iterator[Entry]:
+        return iter(self.entries)
+
+    def time(self) -> Any:
+        """The times of the entries as they are seen, as an astropy `Time` of scale TDB."""
+        from astropy.time import Time
+
+        return Time([DAYS_TO_J2000 + entry.seconds / DAY for entry in self.entries], format="mjd", scale="tdb")
+
+    def to_pandas(self) -> Any:
+        """A `DataFrame` of pandas with a row for each moment of each entry: `group`, `event`, `name`, `contact`, `status`,
+        `turn` (None where it is undecided), `certain`, `first` and `last` of its window (TDB; NaT without one), and
+        `seen_s`, its time in seconds since J2000 (TDB), with `seen_utc` from 1972 on.
+
+        >>> import finder
+        >>> year = "examples/de405-2000.asc"
+        >>> rows = finder.almanac(year, "2000-03-01", "2000-04-01", groups="seasons").to_pandas()
+        >>> print(rows[["name", "certain", "last", "seen_utc"]].to_string(index=False))
+                 name  certain                last                seen_utc
+        March equinox     True 2000-03-20 07:36:19 2000-03-20 07:35:14.330
+        """
+        from .table import frame_of_entries
+
+        return frame_of_entries(self.entries)
 
     def of(self, *events: Event) -> list[Entry]:
         """The entries of some events, in order."""

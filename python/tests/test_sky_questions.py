@@ -59,6 +59,17 @@ class Questions(unittest.TestCase):
         inside = [each for each in sky.rises("saturn") if dark.contains(int(each.seconds))]
         self.assertEqual(sky.rises("saturn", within=dark), finder.Moments(inside))
 
+    def test_phases_and_seasons(self):
+        """By the US Naval Observatory's Phases of the Moon and Earth's Seasons for 2000, to the minute of UT."""
+        sky = sky_of(BERLIN)
+        shown = [f"{moment.name} {finder.Clock().minute(moment.seconds):%m-%d %H:%M}" for moment in sky.phases()]
+        self.assertEqual(
+            shown,
+            ["new moon 06-02 12:14", "first quarter 06-09 03:29", "full moon 06-16 22:27", "last quarter 06-25 01:00"],
+        )
+        (solstice,) = sky.seasons()
+        self.assertEqual((solstice.name, f"{solstice.at():%m-%d %H:%M}"), ("June solstice", "06-21 01:47"))
+
     def test_refused(self):
         sky = sky_of(BERLIN)
         centre = finder.Ephemeris.open(YEAR).sky(None, "2000-06-01", "2000-06-10")

@@ -20,7 +20,7 @@ def frame_of_entries(entries: Sequence[Entry]) -> Any:
     """A row for each moment of each entry."""
     rows = [(entry, contact) for entry in entries for contact in entry.contacts]
     windows = [contact.window for _, contact in rows]
-    texts = {
+    texts: dict[str, list[Any]] = {
         "group": [entry.group.value for entry, _ in rows],
         "event": [entry.event.value for entry, _ in rows],
         "name": [entry.name for entry, _ in rows],

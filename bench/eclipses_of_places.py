@@ -1,13 +1,14 @@
 #!/usr/bin/python3
-"""Local circumstances beside the Swiss Ephemeris over the same coefficients and with the same delta T: eclipses of the Sun
-and of the Moon, and occultations of planets and stars, each at two places.
+"""Local circumstances beside the Swiss Ephemeris over the same coefficients and with the same delta T: eclipses of the
+Sun and of the Moon, and occultations of planets and stars, each at two places.
 
     bench/eclipses_of_places.py [--within SECONDS] [--keep FILE] HEADER TEXT.. -- YEAR_2000
 
-HEADER TEXT.. are JPL's text of DE405 from 1960 to 1980, YEAR_2000 is examples/de405-2000.asc. It prints the difference of
-each contact in seconds and whether both say that it is above the horizon; its status is 1 where a difference is larger
-than `--within` or one says otherwise. `--keep` writes the library's answers, which python/tests/test_sky_swiss.py has. It
-needs Debian's libswe-dev, swe-basic-data and pluto-jpl-eph, a C compiler and erfa."""
+HEADER TEXT.. are JPL's text of DE405 from 1960 to 1980, YEAR_2000 is examples/de405-2000.asc. It prints the difference
+of each contact in seconds and whether both say that it is above the horizon; its status is 1 where a difference is
+larger than `--within` or one says otherwise. `--keep` writes the library's answers, which
+python/tests/test_sky_swiss.py has. It needs Debian's libswe-dev, swe-basic-data and pluto-jpl-eph, a C compiler and
+erfa."""
 
 import json
 import os

@@ -86,22 +86,22 @@ def skies(folder):
         first = first or (observer, sky)
         slowest, worst, count = max(slowest, spent), max(worst, error), count + len(off)
         apart.append(off.max())
+    return hold(slowest, worst, max(apart), count) and sunrises(kernel, scale, *first)
+
+
+def hold(slowest, worst, apart, count):
+    """What the skies of all places have to hold."""
+    spent = f"a year's sky of a place takes at most {SECONDS:g} processor seconds: {slowest:.2f}"
+    fits = f"it fits to {MICROARCSECONDS:g} microarcseconds outside of edges: {worst:.2f}"
+    near = f"{count} places outside of edges are within {MILLIARCSECOND:g} milliarcsecond of Skyfield's"
     return all(
         [
+            line(slowest <= SECONDS, spent),
+            line(worst <= MICROARCSECONDS, fits),
             line(
-                slowest <= SECONDS,
-                f"a year's sky of a place takes at most {SECONDS:g} processor seconds: {slowest:.2f}",
+                apart <= MILLIARCSECOND and count >= COMPARISONS - 50,
+                f"{near}, without its bending by the Earth: {apart:.4f}",
             ),
-            line(
-                worst <= MICROARCSECONDS,
-                f"it fits to {MICROARCSECONDS:g} microarcseconds outside of edges: {worst:.2f}",
-            ),
-            line(
-                max(apart) <= MILLIARCSECOND and count >= COMPARISONS - 50,
-                f"{count} places outside of edges are within {MILLIARCSECOND:g} milliarcsecond of Skyfield's, without "
-                f"its bending by the Earth: {max(apart):.4f}",
-            ),
-            sunrises(kernel, scale, *first),
         ]
     )
 

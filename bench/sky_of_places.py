@@ -1,13 +1,13 @@
 #!/usr/bin/python3
-"""The sky of four places beside Skyfield over the same coefficients and the same delta T: each rising, setting and transit
-of seven bodies, each twilight, and each passing of an altitude.
+"""The sky of four places beside Skyfield over the same coefficients and the same delta T: each rising, setting and
+transit of seven bodies, each twilight, and each passing of an altitude.
 
     bench/sky_of_places.py [--jobs N] [--within SECONDS] --year YEAR.. FILE..
 
 It prints a line for each place and question: how many events both have, and the largest difference in seconds, and its
-status is 1 where a count differs or a difference is larger than `--within`. Where the counts differ Skyfield looks again
-at steps of a quarter, which is said. Events in a span in which the text has a named edge (a body behind the Sun) are
-counted, and their times are left out, which is said too. FILE.. are JPL's text of DE405, the header first. It wants
+status is 1 where a count differs or a difference is larger than `--within`. Where the counts differ Skyfield looks
+again at steps of a quarter, which is said. Events in a span in which the text has a named edge (a body behind the Sun)
+are counted, and their times are left out, which is said too. FILE.. are JPL's text of DE405, the header first. It wants
 Skyfield, erfa and astropy."""
 
 import argparse

@@ -1,5 +1,5 @@
-"""Local circumstances beside the Swiss Ephemeris: which eclipses and occultations, at which places, and how both are put
-beside one another. The library reads the same coefficients, by a binary file that `asc2eph` makes of JPL's text."""
+"""Local circumstances beside the Swiss Ephemeris: which eclipses and occultations, at which places, and how both are
+put beside one another. The library reads the same coefficients, by a binary file that `asc2eph` makes of JPL's text."""
 
 import json
 import shutil
@@ -32,12 +32,19 @@ PLACES = {
     "Buenos Aires": (-34.60, -58.38, 25.0),
     "Denver": (39.74, -104.99, 1600.0),
 }
-# The stars as sefstars.txt of the library has them: degrees of the ICRS at J2000, proper motions in mas a year, parallax
-# in mas, and km/s.
+
+
+def degrees(hours, sign, arc):
+    """Right ascension and declination in degrees, of hours and degrees with their minutes and seconds."""
+    return tuple(scale * (each[0] + each[1] / 60 + each[2] / 3600) for scale, each in ((15, hours), (sign, arc)))
+
+
+# The stars as sefstars.txt of the library has them: degrees of the ICRS at J2000, proper motions in mas a year,
+# parallax in mas, and km/s.
 STARS = {
-    "Aldebaran": finder.Star(15 * (4 + 35 / 60 + 55.23907 / 3600), 16 + 30 / 60 + 33.4885 / 3600, 63.45, -188.94, 48.94, 54.26),
-    "Regulus": finder.Star(15 * (10 + 8 / 60 + 22.31099 / 3600), 11 + 58 / 60 + 1.9516 / 3600, -248.73, 5.59, 41.13, 5.9),
-    "Spica": finder.Star(15 * (13 + 25 / 60 + 11.57937 / 3600), -(11 + 9 / 60 + 40.7501 / 3600), -42.35, -30.67, 13.06, 1.0),
+    "Aldebaran": finder.Star(*degrees((4, 35, 55.23907), 1, (16, 30, 33.4885)), 63.45, -188.94, 48.94, 54.26),
+    "Regulus": finder.Star(*degrees((10, 8, 22.31099), 1, (11, 58, 1.9516)), -248.73, 5.59, 41.13, 5.9),
+    "Spica": finder.Star(*degrees((13, 25, 11.57937), -1, (11, 9, 40.7501)), -42.35, -30.67, 13.06, 1.0),
 }
 
 
@@ -87,7 +94,8 @@ CASES = [
 # The contacts by the places of the library's times, and the flags by which it says that each is seen.
 SOLAR = {"C1": (1, 512), "C2": (2, 1024), "greatest": (0, 256), "C3": (3, 2048), "C4": (4, 4096)}
 LUNAR = {
-    "P1": (6, 8192), "U1": (2, 512), "U2": (4, 1024), "greatest": (0, 256), "U3": (5, 2048), "U4": (3, 4096), "P4": (7, 16384),
+    "P1": (6, 8192), "U1": (2, 512), "U2": (4, 1024), "greatest": (0, 256), "U3": (5, 2048), "U4": (3, 4096),
+    "P4": (7, 16384),
 }  # fmt: skip
 OCCULT = {
     "disappearance begins": (1, 512), "disappearance ends": (2, 1024), "reappearance begins": (3, 2048),
@@ -99,8 +107,8 @@ INNER = ("C2", "C3", "disappearance ends", "reappearance begins", "disappears", 
 
 @dataclass(frozen=True)
 class Answer:
-    """What the library returns: its flags, its times in seconds since J2000 (TT), NaN where it gives none, and its first
-    three attributes."""
+    """What the library returns: its flags, its times in seconds since J2000 (TT), NaN where it gives none, and its
+    first three attributes."""
 
     flags: int
     times: tuple
@@ -198,4 +206,5 @@ def compared(case, answer, ours):
 def kept(path):
     """Answers that were kept, by the names of their cases."""
     whole = json.loads(Path(path).read_text("utf-8"))
-    return {name: Answer(row["flags"], tuple(row["times"]), tuple(row["attributes"])) for name, row in whole["answers"].items()}
+    rows = whole["answers"].items()
+    return {name: Answer(row["flags"], tuple(row["times"]), tuple(row["attributes"])) for name, row in rows}

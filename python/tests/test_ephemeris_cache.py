@@ -49,6 +49,20 @@ class Cache(InCache):
         self.assertEqual(len(texts_in(self.folder / "cache")), 1)
         self.assertEqual(list((self.folder / "cache").glob(f"{cache.UNDONE}*")), [])
 
+    def test_made_once(self):
+        """Of those that ask for a text at once, one makes it, and the others wait and have the same."""
+        made = []
+
+        def make():
+            made.append(1)
+            time.sleep(0.2)
+            return [b"text"], {"name": "text", "start": 0, "end": 1, "titles": [""]}
+
+        with concurrent.futures.ThreadPoolExecutor(8) as pool:
+            found = list(pool.map(lambda _: cache.kept("0123", make), range(8)))
+        self.assertEqual(len(made), 1)
+        self.assertEqual({each.files for each in found}, {found[0].files})
+
     def test_killed_in_the_middle(self):
         """A process that is killed while it writes leaves no text, and the next one makes it whole."""
         slow = (

@@ -117,6 +117,10 @@ class Skies(InCache):
         found = finder.find(sky, "sep", "sun", "zenith", ref="-0.014543897651582599")
         self.assertEqual((found.start, found.end), (5_140_800, 7_819_200))
         self.assertEqual(len(found), 62)
+        # (a block of the source begins with the first of these days, and one ends with the last)
+        whole = finder.Ephemeris.open(YEAR, "2000-04-30", "2000-07-03").sky("52.52 N 13.40 E", delta_t=DELTA_T)
+        self.assertLessEqual(whole.start, 10_324_800)
+        self.assertGreaterEqual(whole.end, 15_854_400)
 
 
 @unittest.skipUnless(has_erfa and has_skyfield, "there is no erfa, no skyfield or no jplephem here")

@@ -77,8 +77,8 @@ class Orders(InFolder):
     def test_each_call_that_takes_files_is_here(self):
         public = {name: getattr(finder, name) for name in finder.__all__}
         taking = {name for name, call in public.items() if "files" in parameters_of(call)}
-        # (`join` takes what `check` says of files, and an `Almanac` has the names of those that it is of)
-        self.assertEqual(taking - {"join", "Almanac"}, {*CALLS, *ELSEWHERE})
+        # (`join` takes what `check` says of files; an `Almanac` and `Windows` have those that they are of)
+        self.assertEqual(taking - {"join", "Almanac", "Windows"}, {*CALLS, *ELSEWHERE})
 
     def test_each_call_over_shuffled_files(self):
         whole = {name: call(YEAR) for name, call in CALLS.items()}

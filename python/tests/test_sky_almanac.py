@@ -1,4 +1,5 @@
-"""The almanac of a place, and what was mended in all almanacs: each row has its day, contacts have their date, and so on."""
+"""The almanac of a place, and what was mended in all almanacs: each row has its day, contacts have their date, and so
+on."""
 
 import csv
 import datetime
@@ -32,6 +33,7 @@ SUN_OF_BERLIN = {
     "2000-07-15": ("", "02:05", "03:15", "04:02", "20:22", "21:08", "22:18", ""),
     "2000-12-21": ("06:07", "06:49", "07:33", "08:15", "15:54", "16:36", "17:20", "18:02"),
 }
+SPAN = "2000-05-25", "2000-06-10"
 CELLS = [name for name in SUN if name != "Sun transits"]
 
 
@@ -118,7 +120,8 @@ class OfAPlace(InFolder):
             finder.page(found, form)
 
     def test_local_circumstances(self):
-        """The Moon is below the horizon of Berlin on 16 July, and the Sun on the 31st; Mercury is covered on the 29th."""
+        """The Moon is below the horizon of Berlin on 16 July, and the Sun on the 31st; Mercury is covered on the
+        29th."""
         found = berlin()
         (lunar,) = found.of(finder.Event.LUNAR_ECLIPSE)
         self.assertIn("not seen from here", lunar.text)
@@ -165,7 +168,7 @@ class OfAPlace(InFolder):
 
     def test_pluto_and_stars(self):
         found = finder.almanac(
-            YEAR, "2000-05-25", "2000-06-10", groups=["planets", "moon-meetings"], pluto=True, stars=True, program=PROGRAM
+            YEAR, *SPAN, groups=["planets", "moon-meetings"], pluto=True, stars=True, program=PROGRAM
         )
         # (Astronomical Phenomena for 2000: Pluto at opposition on 1 June)
         (pluto,) = [entry for entry in found.of(finder.Event.OPPOSITION) if entry.bodies == ("pluto",)]
@@ -173,7 +176,7 @@ class OfAPlace(InFolder):
         # (new moon on 2 June between Aldebaran, which it passed that day, and Regulus, 5.5 hours of right ascension on)
         self.assertLessEqual({"Moon passes Aldebaran", "Moon passes Regulus"}, {entry.name for entry in found.entries})
         self.assertNotIn("Pluto is not here", finder.page(found))
-        self.assertIn("Pluto is not here", finder.page(finder.almanac(YEAR, "2000-05-25", "2000-06-10", groups="planets")))
+        self.assertIn("Pluto is not here", finder.page(finder.almanac(YEAR, *SPAN, groups="planets", program=PROGRAM)))
 
 
 @unittest.skipUnless(HERE, "one of erfa, jinja2 and icalendar is not here")
@@ -185,7 +188,8 @@ class ANight(InFolder):
         return subprocess.run(command, capture_output=True, text=True, check=False, env=environment)
 
     def test_a_night_with_an_eclipse(self):
-        """The night of 20 January 2000 at Berlin: the Moon is eclipsed, all its contacts above the horizon but the last."""
+        """The night of 20 January 2000 at Berlin: the Moon is eclipsed, all its contacts above the horizon but the
+        last."""
         done = self.run_command("--place", "52.52,13.40", "--tz", "Europe/Berlin", "--on", "2000-01-20", "--stars")
         self.assertEqual((done.returncode, done.stderr), (0, ""))
         sky = finder.Ephemeris.open(YEAR).sky((52.52, 13.40), "2000-01-20", "2000-01-22", delta_t=63.83)

@@ -57,7 +57,8 @@ HISTORY = (
 
 class Places(unittest.TestCase):
     def test_examples(self):
-        self.assertEqual(doctest.testmod(place).failed, 0)
+        self.assertEqual(doctest.run_docstring_examples(place.Place, vars(place)), None)
+        self.assertEqual(str(Place(52.52, 13.40, 34)), "52.5200 N 13.4000 E, 34 m")
 
     def test_texts(self):
         for text, (latitude, longitude, metres) in TEXTS:

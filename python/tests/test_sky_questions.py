@@ -49,7 +49,7 @@ class Questions(unittest.TestCase):
             self.assertEqual(len(sky.dark().possible), 0)
 
     def test_never_reached(self):
-        with self.assertWarnsRegex(finder.NeverReached, "Jupiter does not reach 80 degrees in this sky: it is at most 5"):
+        with self.assertWarnsRegex(finder.NeverReached, "Jupiter does not reach 80 degrees .* it is at most 5"):
             self.assertEqual(len(sky_of(BERLIN).above("jupiter", 80).possible), 0)
 
     def test_sets_within(self):
@@ -58,6 +58,17 @@ class Questions(unittest.TestCase):
         self.assertEqual(sky.above("saturn", 5, within=dark), high & dark)
         inside = [each for each in sky.rises("saturn") if dark.contains(int(each.seconds))]
         self.assertEqual(sky.rises("saturn", within=dark), finder.Moments(inside))
+
+    def test_phases_and_seasons(self):
+        """By the US Naval Observatory's Phases of the Moon and Earth's Seasons for 2000, to the minute of UT."""
+        sky = sky_of(BERLIN)
+        shown = [f"{moment.name} {finder.Clock().minute(moment.seconds):%m-%d %H:%M}" for moment in sky.phases()]
+        self.assertEqual(
+            shown,
+            ["new moon 06-02 12:14", "first quarter 06-09 03:29", "full moon 06-16 22:27", "last quarter 06-25 01:00"],
+        )
+        (solstice,) = sky.seasons()
+        self.assertEqual((solstice.name, f"{solstice.at():%m-%d %H:%M}"), ("June solstice", "06-21 01:47"))
 
     def test_refused(self):
         sky = sky_of(BERLIN)
@@ -100,9 +111,10 @@ class Questions(unittest.TestCase):
         """The examples of the modules."""
         with warnings.catch_warnings():
             warnings.simplefilter("ignore")
-            for name in ("moments", "refraction", "discs", "bodies"):
-                module = importlib.import_module(f"finder.sky.{name}")
-                self.assertEqual(doctest.testmod(module).failed, 0, name)
+            for name in ("refraction", "discs", "bodies"):
+                made = doctest.testmod(importlib.import_module(f"finder.sky.{name}"))
+                self.assertEqual(made.failed, 0, name)
+                self.assertGreater(made.attempted, 0, name)
 
 
 if __name__ == "__main__":

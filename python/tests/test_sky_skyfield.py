@@ -1,5 +1,5 @@
-"""The sky of a place beside Skyfield over the same coefficients and the same delta T. `bench/sky_of_places.py` does so for
-whole years at four places; here are a month at two of them, and a brute force over 30 nights, minute by minute."""
+"""The sky of a place beside Skyfield over the same coefficients and the same delta T. `bench/sky_of_places.py` does so
+for whole years at four places; here are a month at two of them, and a brute force over 30 nights, minute by minute."""
 
 import functools
 import importlib.util
@@ -132,9 +132,43 @@ class BesideSkyfield(unittest.TestCase):
             made |= (seconds >= first / rows.tick) & (seconds <= last / rows.tick)
         return made
 
+    def test_meetings(self):
+        """Jupiter and Saturn have one right ascension of date at their meeting of 2000."""
+        sky = sky_of("Berlin", "2000-05-25", "2000-06-05")
+        (meeting,) = sky.meetings(["jupiter", "saturn"])
+
+        def ahead(seconds):
+            one, other = (here("Berlin")(body, times_of(seconds)).radec("date")[0].hours for body in ("jupiter", "saturn"))
+            return one - other
+
+        self.assertLess(self.error(ahead, np.array([meeting.seconds])).max(), WITHIN)
+        apart = here("Berlin")("jupiter", times_of([meeting.seconds]))
+        angle = apart.separation_from(here("Berlin")("saturn", times_of([meeting.seconds]))).degrees[0]
+        self.assertAlmostEqual(meeting.separation, angle, places=6)
+
+    def test_a_meeting_of_date_that_is_none_of_j2000(self):
+        """Precession moves two stars at 90 degrees of right ascension, 60 north and 60 south, past one another: in the
+        axes of J2000 they never meet, and on the equator of date they do."""
+        from skyfield.api import Star
+
+        places = {"north": (90.0, 60.0), "south": (90.002, -60.0)}
+        stars = {name: finder.Star(*place) for name, place in places.items()}
+        words = {"bodies": ["sun", "moon"], "stars": stars}
+        source, span = finder.Ephemeris.open(YEAR), ("2000-01-02", "2000-12-30")
+        fixed = finder.conjunctions(source.sky(None, *span, axes="j2000", **words), "north", "south")
+        self.assertEqual(len(fixed), 0)
+        meetings = source.sky(None, *span, **words).meetings(["north", "south"])
+        self.assertGreaterEqual(len(meetings), 1)
+        kernel, _ = skyfield()
+        for meeting in meetings:
+            at = kernel[NAMES["earth"]].at(times_of([meeting.seconds]))
+            seen = [Star(ra_hours=ra / 15, dec_degrees=dec) for ra, dec in places.values()]
+            one, other = (at.observe(star).apparent().radec("date")[0].hours[0] * 54_000 for star in seen)
+            self.assertLess(abs(one - other), 2e-3)
+
     def test_refraction(self):
-        """Skyfield's refraction is Bennett's formula at all altitudes: within a minute of arc of ours down to the horizon,
-        and within 4 seconds of arc of erfa's from 30 degrees on."""
+        """Skyfield's refraction is Bennett's formula at all altitudes: within a minute of arc of ours down to the
+        horizon, and within 4 seconds of arc of erfa's from 30 degrees on."""
         from skyfield.earthlib import refract
 
         from finder.sky.refraction import refraction

@@ -3,10 +3,11 @@
 Its answers stand in swiss_answers.json, as `bench/eclipses_of_places.py --keep` wrote them with Debian's libswe-dev,
 swe-basic-data and pluto-jpl-eph:
 
-    bench/eclipses_of_places.py --keep python/tests/swiss_answers.json header.405 ascp1960.405 -- examples/de405-2000.asc
+    bench/eclipses_of_places.py --keep python/tests/swiss_answers.json header.405 ascp1960.405 --
+    examples/de405-2000.asc
 
-Those of 2000 are of the repository's text. The others need JPL's text from 1960 to 1980 (header.405 and ascp1960.405), and
-are looked at where $FINDER_DE405_1960 names the folder that has it."""
+Those of 2000 are of the repository's text. The others need JPL's text from 1960 to 1980 (header.405 and ascp1960.405),
+and are looked at where $FINDER_DE405_1960 names the folder that has it."""
 
 import functools
 import importlib.util
@@ -18,8 +19,8 @@ import finder
 from tests import swiss
 from tests.common import YEAR
 
-# The seconds by which contacts may differ: what the library's place on the Earth (it leaves nutation out of the observer's
-# vector) and its own search leave.
+# The seconds by which contacts may differ: what the library's place on the Earth (it leaves nutation out of the
+# observer's vector) and its own search leave.
 WITHIN = 1.0
 ANSWERS = swiss.kept(Path(__file__).with_name("swiss_answers.json"))
 OTHER = Path(os.environ.get("FINDER_DE405_1960", "/nowhere"))
@@ -47,14 +48,15 @@ class BesideSwissEphemeris(unittest.TestCase):
                         self.assertLess(abs(off), WITHIN, name)
 
     def test_cases(self):
-        """Two places each: three eclipses of the Sun, one of the Moon, ten occultations of six planets and three stars."""
+        """Two places each: three eclipses of the Sun, one of the Moon, ten occultations of six planets and three
+        stars."""
         self.assertEqual(set(ANSWERS), {case.name for case in swiss.CASES})
         self.assertEqual(len({case.day for case in swiss.CASES if case.kind == "occult"}), 10)
 
     def test_the_year_2000(self):
         self.look(True)
 
-    @unittest.skipUnless((OTHER / "ascp1960.405").exists(), "$FINDER_DE405_1960 names no folder with JPL's text of 1960")
+    @unittest.skipUnless((OTHER / "ascp1960.405").exists(), "$FINDER_DE405_1960 has no text of 1960 by JPL")
     def test_other_years(self):
         self.look(False)
 

@@ -1,4 +1,5 @@
-"""An almanac of a span: the searches of all its groups over the texts of what is seen, and the entries of their windows.
+"""An almanac of a span: the searches of all its groups over the texts of what is seen, and the entries of their
+windows.
 
 The windows of each entry are certified, as those of every search, and its times are the windows' own. Numbers, and the
 kinds of solar eclipses, are doubles, and unproved.

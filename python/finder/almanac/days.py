@@ -1,4 +1,5 @@
-"""The Sun and the Moon by day, and planets by week, of a place: what an almanac's tables of days have in their cells."""
+"""The Sun and the Moon by day, and planets by week, of a place: what an almanac's tables of days have in their
+cells."""
 
 from __future__ import annotations
 
@@ -126,7 +127,9 @@ def weeks_of(found: Almanac, clock: Clock) -> dict[str, list[WeekRow]]:
     noons = np.array([clock.seconds_of(datetime.datetime.combine(date, datetime.time(12))) for date in dates])
     made = {}
     for body, moments in local.planets.items():
-        rows = _by_day(moments, clock)
+        # (a day's moments are within half a day of its noon, or an hour more where clocks change)
+        near = np.abs(noons - moments.seconds[:, None]).min(axis=1) < DAY / 2 + 3_700
+        rows = _by_day((moment for moment, is_near in zip(moments, near) if is_near), clock)
         states = _states(local, body, dates, rows, noons)
         made[body] = [_week_row(date, body, rows, state) for date, state in zip(dates, states)]
     return made

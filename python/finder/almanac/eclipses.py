@@ -109,7 +109,8 @@ def _greatest(texts: Texts, least: list[Contact], group: list[Contact], body: st
 
 
 def _moon_greatest(texts: Texts, least: list[Contact], group: list[Contact]) -> Contact:
-    """The greatest of a lunar eclipse: the least angle between Earth and Sun from the Moon, of its window or in doubles."""
+    """The greatest of a lunar eclipse: the least angle between Earth and Sun from the Moon, of its window or in
+    doubles."""
     low, high = _around(texts, group)
     inside = [each for each in least if low <= each.seconds <= high]
     if inside:

@@ -5,16 +5,20 @@ Times are seconds of TDB since J2000, 2000-01-01T12:00:00 TDB.
 
 from __future__ import annotations
 
-from collections.abc import Mapping
+from collections.abc import Iterator, Mapping
 from dataclasses import dataclass, field
 from enum import Enum
 from typing import Any, Optional
 
 from ..public import public
+from ..reports.calendar import DAY
 from ..reports.windows import Window
 from ..seen.vectors import Floats
 from ..sky.moments import Moments
 from ..sky.place import Place
+
+# The modified Julian date of J2000.
+DAYS_TO_J2000 = 51_544.5
 
 # The planets of an almanac, in order from the Sun; from Jupiter on they are the barycentres of their systems.
 PLANETS = ("mercury", "venus", "mars", "jupiter", "saturn", "uranus", "neptune")
@@ -169,7 +173,8 @@ class Numbers:
 @public
 @dataclass(frozen=True)
 class Contact:
-    """A moment of an event: its window, whose search `request` is, and its time in `seconds`, which is the window's own.
+    """A moment of an event: its window, whose search `request` is, and its time in `seconds`, which is the window's
+    own.
 
     `text` says what is searched: of what is seen, or of where bodies are. The window is None for what no search is made
     for, as the greatest of a solar eclipse, whose time is computed in doubles. At a place `altitude` and `azimuth` in
@@ -192,7 +197,8 @@ class Contact:
 
     @property
     def is_up(self) -> Optional[bool]:
-        """Whether the body is above the horizon of the place, lifted by 34' of refraction; None for the Earth's centre."""
+        """Whether the body is above the horizon of the place, lifted by 34' of refraction; None for the Earth's
+        centre."""
         return None if self.altitude is None else self.altitude > -34 / 60
 
     @property
@@ -246,9 +252,9 @@ class Curves:
 
 @dataclass(frozen=True)
 class LocalYear:
-    """What a place sees in the span of an almanac, by its `sky`: the moments of the Sun (`sun`), of the Moon (`moon`) and
-    of each planet, sentences of what does not rise or set (`said`), what UT1 stands on (`rotation`), and by day the part
-    of the Moon's disc that is lit (`lit`, from 0 to 1, at `lit_times`)."""
+    """What a place sees in the span of an almanac, by its `sky`: the moments of the Sun (`sun`), of the Moon (`moon`)
+    and of each planet, sentences of what does not rise or set (`said`), what UT1 stands on (`rotation`), and by day
+    the part of the Moon's disc that is lit (`lit`, from 0 to 1, at `lit_times`)."""
 
     place: Place
     rotation: str
@@ -268,8 +274,8 @@ class Almanac:
     """The entries of a span in order of time, from `start` and before `end`, and what they come from: the `groups` that
     were looked for, by so many `searches` of the `files`, from `first_searched` to `last_searched`.
 
-    An undecided window has an entry, which says so. None is left out. Of a place it has the `place`, its days and weeks,
-    and what UT1 stands on.
+    An undecided window has an entry, which says so. None is left out. Of a place it has the `place`, its days and
+    weeks, and what UT1 stands on.
 
     >>> import finder
     >>> year = "examples/de405-2000.asc"
@@ -292,6 +298,34 @@ class Almanac:
 
     def __repr__(self) -> str:
         return f"<{self.title!r}: {len(self.entries)} entries of {self.searches} searches>"
+
+    def __len__(self) -> int:
+        return len(self.entries)
+
+    def __iter__(self) -> Iterator[Entry]:
+        return iter(self.entries)
+
+    def time(self) -> Any:
+        """The times of the entries as they are seen, as an astropy `Time` of scale TDB."""
+        from astropy.time import Time
+
+        return Time([DAYS_TO_J2000 + entry.seconds / DAY for entry in self.entries], format="mjd", scale="tdb")
+
+    def to_pandas(self) -> Any:
+        """A `DataFrame` of pandas with a row for each moment of each entry: `group`, `event`, `name`, `contact`, `status`,
+        `turn` (None where it is undecided), `certain`, `first` and `last` of its window (TDB; NaT without one), and
+        `seen_s`, its time in seconds since J2000 (TDB), with `seen_utc` from 1972 on.
+
+        >>> import finder
+        >>> year = "examples/de405-2000.asc"
+        >>> rows = finder.almanac(year, "2000-03-01", "2000-04-01", groups="seasons").to_pandas()
+        >>> print(rows[["name", "certain", "last", "seen_utc"]].to_string(index=False))
+                 name  certain                last                seen_utc
+        March equinox     True 2000-03-20 07:36:19 2000-03-20 07:35:14.330
+        """
+        from .table import frame_of_entries
+
+        return frame_of_entries(self.entries)
 
     def of(self, *events: Event) -> list[Entry]:
         """The entries of some events, in order."""

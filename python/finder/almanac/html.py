@@ -103,8 +103,8 @@ def _lead(found: Almanac, clock: Clock) -> str:
     but = f" Of {undecided} the window is undecided, and nothing is proved." if undecided else ""
     where = "the Earth's centre" if found.local is None else f"the Earth's centre, and from {found.local.place}"
     return (
-        f"{len(found.entries)} events as they are seen from {where}, in {clock.name}, each with its numbers and with the "
-        f"window of time that is proved to hold it in the text of what is seen.{but}"
+        f"{len(found.entries)} events as they are seen from {where}, in {clock.name}, each with its numbers and with "
+        f"the window of time that is proved to hold it in the text of what is seen.{but}"
     )
 
 
@@ -115,7 +115,11 @@ def _year(found: Almanac, period: Period, clock: Clock, days: Sequence[Day]) -> 
     mine = [day for day in days if first <= day.date <= last]
     of_days = {month: list(each) for month, each in groupby(mine, key=lambda day: day.date.replace(day=1))}
     months = [
-        {"title": month_title(month), "rows": list(_rows(rows.get(month, []), clock)), "days": _days(of_days.get(month, []))}
+        {
+            "title": month_title(month),
+            "rows": list(_rows(rows.get(month, []), clock)),
+            "days": _days(of_days.get(month, [])),
+        }
         for month in sorted({*rows, *of_days})
     ]
     figures = [*_figure(found, period, clock), *_night_figure(found, period, clock, mine)]
@@ -178,7 +182,8 @@ def _zone_name(clock: Clock) -> str:
 
 
 def _rows(entries: Sequence[Entry], clock: Clock) -> Iterator[dict[str, Any]]:
-    """The rows of a month: one for each entry, and one for each of its moments where it has several. Each has its day."""
+    """The rows of a month: one for each entry, and one for each of its moments where it has several. Each has its
+    day."""
     last: list[datetime.date] = []
     for entry in entries:
         several = len(entry.contacts) > 1
@@ -195,7 +200,14 @@ def _rows(entries: Sequence[Entry], clock: Clock) -> Iterator[dict[str, Any]]:
 
 
 def _row(
-    css: str, when: datetime.datetime, time: str, name: str, said: str, warned: str, window: str, last: list[datetime.date]
+    css: str,
+    when: datetime.datetime,
+    time: str,
+    name: str,
+    said: str,
+    warned: str,
+    window: str,
+    last: list[datetime.date],
 ) -> dict[str, Any]:
     is_again = last == [when.date()]
     last[:] = [when.date()]

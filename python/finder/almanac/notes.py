@@ -17,8 +17,8 @@ PROVED = (
 )
 COMPUTED = (
     "Measured, and not proved: how far the text is from what is seen (by light time, aberration, bending by the Sun's "
-    "mass, and the equator or ecliptic of date). Computed in doubles, and not proved: the numbers beside the times, the "
-    "kinds of eclipses, and each moment that has no window."
+    "mass, and the equator or ecliptic of date). Computed in doubles, and not proved: the numbers beside the times, "
+    "the kinds of eclipses, and each moment that has no window."
 )
 RULES = {
     Group.MOON: "New and full moons and quarters are of ecliptic longitude of date, nodes of the ecliptic of date.",
@@ -31,9 +31,10 @@ RULES = {
     Group.MOON_MEETINGS: "The Moon passes a planet at one right ascension of date, and covers it where any place on "
     "Earth may see so.",
     Group.DAYS: "The Sun rises and sets with its centre 50' below the horizon, the Moon with its upper limb 34' below "
-    "it, and twilights end with the Sun 6, 12 and 18 degrees below it. Altitudes are those of centres, without the air.",
-    Group.WEEKS: "Planets rise and set with their centres 34' below the horizon. The text of a place has columns for the "
-    "Sun, the Moon and the planets up to Uranus, so that Neptune and Pluto have no table here.",
+    "it, and twilights end with the Sun 6, 12 and 18 degrees below it. Altitudes are those of centres, without the "
+    "air.",
+    Group.WEEKS: "Planets rise and set with their centres 34' below the horizon. The text of a place has columns for "
+    "the Sun, the Moon and the planets up to Uranus, so that Neptune and Pluto have no table here.",
 }
 POLAR_MOTION = "Polar motion, which moves a place by less than 20 m, is left out."
 NO_PLUTO = "Pluto is not here: --pluto, or pluto=True, adds it."

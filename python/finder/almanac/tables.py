@@ -47,7 +47,8 @@ def text_of(found: Almanac, clock: Clock) -> str:
     numbers, and the certified window in TDB; then planets by week, and the notes."""
     lines = [f"{found.title}, times in {clock.name}, certified windows in TDB", ""]
     months = {month: list(rows) for month, rows in groupby(found.entries, key=lambda entry: month_of(entry, clock))}
-    days = {month: list(rows) for month, rows in groupby(days_of(found, clock), key=lambda day: day.date.replace(day=1))}
+    of_days = groupby(days_of(found, clock), key=lambda day: day.date.replace(day=1))
+    days = {month: list(rows) for month, rows in of_days}
     for month in sorted({*months, *days}):
         lines += [month_title(month), ""]
         if month in days:
@@ -106,8 +107,8 @@ def _lines_of(entry: Entry, clock: Clock) -> Iterator[str]:
 
 
 def csv_of(found: Almanac, clock: Clock) -> str:
-    """A table with a row for each moment of each entry, as RFC 4180 has it; of a place also one for each rising, transit
-    and setting, and each begin and end of a twilight."""
+    """A table with a row for each moment of each entry, as RFC 4180 has it; of a place also one for each rising,
+    transit and setting, and each begin and end of a twilight."""
     made = io.StringIO(newline="")
     writer = csv.writer(made)
     numbers = [field.name for field in fields(Numbers)]

@@ -1,4 +1,5 @@
-"""What an almanac searches: JPL's numbers, and the texts of what is seen from the Earth's centre that are made of them."""
+"""What an almanac searches: JPL's numbers, and the texts of what is seen from the Earth's centre that are made of
+them."""
 
 from __future__ import annotations
 
@@ -21,8 +22,9 @@ from ..sky.sky import Sky
 from .entries import PLANETS, Contact, Entry, Group
 from .names import Pair, pair_of
 
-# The stars of the first magnitude that the Moon may cover, by the Hipparcos catalogue (ESA SP-1200, 1997): right ascension
-# and declination of the ICRS in degrees at 1991.25, proper motions in milliarcseconds a year, parallax in milliarcseconds.
+# The stars of the first magnitude that the Moon may cover, by the Hipparcos catalogue (ESA SP-1200, 1997): right
+# ascension and declination of the ICRS in degrees at 1991.25, proper motions in milliarcseconds a year, parallax in
+# milliarcseconds.
 STARS = {
     "aldebaran": Star(68.98000195, 16.50976164, 62.78, -189.36, 50.09, 54.3, 1991.25),
     "regulus": Star(152.09358075, 11.96719513, -249.40, 4.91, 42.09, 5.9, 1991.25),

@@ -83,7 +83,7 @@ def _years(text: str) -> Dates:
             f"{text!r} is no year: write 2026, 2020-2029 for several, or 2031-07 for a month"
         ) from None
     if not 1 <= low <= high <= LAST_YEAR:
-        raise argparse.ArgumentTypeError(f"{text!r} are no years from 1 to {LAST_YEAR} in order, and no month as 2031-07")
+        raise argparse.ArgumentTypeError(f"{text!r} are no years from 1 to {LAST_YEAR} in order, and no month: 2031-07")
     title = f"Almanac {low}" if low == high else f"Almanac {low} to {high}"
     return Dates(datetime.date(low, 1, 1), datetime.date(high + 1, 1, 1), title)
 
@@ -152,7 +152,8 @@ def _days(words: argparse.Namespace) -> Dates:
     whole: Dates = words.years
     start, last = words.first or whole.start, words.last or whole.end - datetime.timedelta(days=1)
     if not whole.start <= start <= last < whole.end:
-        words.refuse(f"--from and --to are days in order from {whole.start} to {whole.end - datetime.timedelta(days=1)}")
+        final = whole.end - datetime.timedelta(days=1)
+        words.refuse(f"--from and --to are days in order from {whole.start} to {final}")
     if (start, last + datetime.timedelta(days=1)) == (whole.start, whole.end):
         return whole
     return Dates(start, last + datetime.timedelta(days=1), f"Almanac {start} to {last}")

@@ -15,11 +15,11 @@ from ..sky.sky import Sky
 from .almanac import add_place_words, clock_of, date_of
 
 DESCRIPTION = """\
-Prints one night at a place: sunset, twilights and sunrise, the Moon, when each planet rises, stands highest and sets, how
-high it stands in the dark, and the eclipses and occultations that are seen.
+Prints one night at a place: sunset, twilights and sunrise, the Moon, when each planet rises, stands highest and sets,
+how high it stands in the dark, and the eclipses and occultations that are seen.
 
-Times are those of windows that are proved to miss nothing in the text of this sky; how far the text is from what is seen
-is measured."""
+Times are those of windows that are proved to miss nothing in the text of this sky; how far the text is from what is
+seen is measured."""
 EXAMPLES = """\
 examples:
   finder tonight examples/de405-2000.asc --place 52.52,13.40 --tz Europe/Berlin --on 2000-10-20

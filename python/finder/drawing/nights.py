@@ -1,5 +1,5 @@
-"""The nights of a year at a place as a drawing (SVG): along the year the days, and upward the hours from noon to noon. It
-shows night and twilight, the Moon's light, and when each planet rises and sets."""
+"""The nights of a year at a place as a drawing (SVG): along the year the days, and upward the hours from noon to noon.
+It shows night and twilight, the Moon's light, and when each planet rises and sets."""
 
 from __future__ import annotations
 
@@ -74,8 +74,9 @@ class NightDrawing:
         shown = [f"{day.day} {day:%B}" for day in days]
         return (
             f"The darkness of astronomical night lasts {dark[longest]:.1f} hours at most, on {shown[0]}, and "
-            f"{dark[shortest]:.1f} hours at least, on {shown[1]}. The lines of {', '.join(map(short_title, self._shown()))} "
-            "are their risings and settings, which stand in the tables of planets by week."
+            f"{dark[shortest]:.1f} hours at least, on {shown[1]}. The lines of "
+            f"{', '.join(map(short_title, self._shown()))} are their risings and settings, which stand in the tables of "
+            "planets by week."
         )
 
     def _shown(self) -> list[str]:
@@ -85,8 +86,8 @@ class NightDrawing:
         """What the shades and lines mean."""
         keys = "".join(f'<span><i class="line p-{body}"></i>{short_title(body)}</span>' for body in self._shown())
         return (
-            f"{keys}Up: from noon to noon. Blue: twilight, to 6, 12 and 18 degrees. Pale: the Moon is up at night. A line "
-            "is a planet's setting, broken its rising."
+            f"{keys}Up: from noon to noon. Blue: twilight, to 6, 12 and 18 degrees. Pale: the Moon is up at night. A "
+            "line is a planet's setting, broken its rising."
         )
 
     def _width(self) -> float:

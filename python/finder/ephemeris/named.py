@@ -127,6 +127,6 @@ def refuse_sky(files: Any, function: str) -> None:
     """Refuses the text of a sky where geometric places are wanted."""
     if getattr(files, "is_apparent", False):
         raise ValueError(
-            f"finder.{function} is of geometric places, and those of a sky are as they are seen: the windows of a search "
-            "of it are the times, and its places(body, seconds) gives where a body is"
+            f"finder.{function} is of geometric places, and those of a sky are as they are seen: the windows of a "
+            "search of it are the times, and its places(body, seconds) gives where a body is"
         )

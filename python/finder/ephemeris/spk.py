@@ -118,8 +118,8 @@ class Kernels:
                 away = np.abs(self._evaluated(one, times) - self._evaluated(other, times)).max()
                 if away > SAME:
                     raise WrongSource(
-                        f"{names[0]} and {names[1]} have other places of {target} from {center}, by {away:.3g} km: they are "
-                        "of two series, so name kernels of one; with bodies= the later file counts"
+                        f"{names[0]} and {names[1]} have other places of {target} from {center}, by {away:.3g} km: "
+                        "they are of two series, so name kernels of one; with bodies= the later file counts"
                     )
 
     def path(self, target: int) -> Optional[list[tuple[int, int]]]:

@@ -56,8 +56,8 @@ def _always(name: str) -> Naming:
 @public
 @dataclass(frozen=True)
 class Meeting(Moment):
-    """Two bodies at one right ascension of date: `body` and the `second` one, `separation` degrees apart, and the second
-    one is north of the other where `is_north`.
+    """Two bodies at one right ascension of date: `body` and the `second` one, `separation` degrees apart, and the
+    second one is north of the other where `is_north`.
 
     >>> import finder
     >>> eph = finder.Ephemeris.open("examples/de405-2000.asc")

@@ -1,4 +1,5 @@
-"""Eclipses at a place: the contacts that are seen there of those of the Sun and of the Moon, and transits of planets."""
+"""Eclipses at a place: the contacts that are seen there of those of the Sun and of the Moon, and transits of
+planets."""
 
 from __future__ import annotations
 
@@ -105,7 +106,9 @@ def _with_greatest(made: list[Moment], passage: Passage, body: str) -> list[Mome
     return [*made, replace(nearest, name="greatest", window=None, fine=None, request="")]
 
 
-def solar(text: TextOfSky, searches: Searches, span: Span, precise: bool, radii: Mapping[str, float]) -> list[LocalEclipse]:
+def solar(
+    text: TextOfSky, searches: Searches, span: Span, precise: bool, radii: Mapping[str, float]
+) -> list[LocalEclipse]:
     """The eclipses of the Sun at the place of a text."""
     pair = Pair("moon", "sun", (radii["moon"], radii["sun"]))
     made = []
@@ -162,7 +165,11 @@ def lunar(
 
 
 def _lunar_contacts(
-    searches: Searches, row: tuple[str, int, int, tuple[str, str]], span: Span, precise: bool, radii: Mapping[str, float]
+    searches: Searches,
+    row: tuple[str, int, int, tuple[str, str]],
+    span: Span,
+    precise: bool,
+    radii: Mapping[str, float],
 ) -> list[Moment]:
     kind, of_shadow, of_sun, names = row
     shadow, sun = (radii[body] + sign * radii["moon"] for body, sign in (("shadow", of_shadow), ("sun", of_sun)))
@@ -172,14 +179,16 @@ def _lunar_contacts(
         for tick in ((SECOND, MILLISECOND) if precise else (SECOND,))
     ]
     named = dict(zip(("rise", "fall"), names))
-    return moments_of("moon", found[0], found[1] if precise else None, lambda turn: named.get(turn or "", " or ".join(names)))
+    fine = found[1] if precise else None
+    return moments_of("moon", found[0], fine, lambda turn: named.get(turn or "", " or ".join(names)))
 
 
 def _lunar_eclipse(centre: Sky, contacts: Moments, radii: Mapping[str, float]) -> LocalEclipse:
     have = {each.name for each in contacts}
     kind = "total" if have & {"U2", "U3"} else "partial" if have & {"U1", "U4"} else "penumbral"
     at = np.array([contacts.named("greatest")[0].seconds])
-    sizes = moon_sizes(centre.places("moon", at), centre.places("sun", at), radii["shadow"], radii["sun"], radii["moon"])
+    places = centre.places("moon", at), centre.places("sun", at)
+    sizes = moon_sizes(*places, radii["shadow"], radii["sun"], radii["moon"])
     magnitude = sizes.penumbral if kind == "penumbral" else sizes.umbral
     return LocalEclipse(Sort.LUNAR, kind, "moon", contacts, magnitude, float("nan"))
 

@@ -54,7 +54,7 @@ def _made(sky: SkyText) -> tuple[Any, dict[str, Any]]:
         columns[body] = coefficients, series.granules(sky.names[body])
     block = round(series.block)
     count = round((series.end - series.start) / block)
-    title = f"The Moon and the Sun on the ecliptic of date without their latitudes, of the sky with SHA-256 {sky.sha256}."
+    title = f"The Moon and the Sun on the ecliptic of date without latitude, of the sky with SHA-256 {sky.sha256}."
     text = EphemerisText(round(series.start), block, count, columns_of(columns), titles=(title, *sky.titles))
     about = {
         "name": "flat",

@@ -101,7 +101,7 @@ def _zenith_distance(altitude: float) -> str:
 def _disc_below(text: TextOfSky, altitude: float, span: Span) -> str:
     """The radius in km of the disc about the nadir that reaches up to an altitude, which is below 0."""
     if altitude >= 0:
-        raise ValueError(f"a limb is searched for below the true horizon, and {altitude:g} degrees is none: use the centre")
+        raise ValueError(f"a limb is searched for below the true horizon, and not at {altitude:g}: take limb='centre'")
     distance = float(length(text.places("nadir", np.array([float(span[0])])))[0])
     return repr(distance * math.sin(math.radians(90.0 + altitude)))
 

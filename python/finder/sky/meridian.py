@@ -33,4 +33,4 @@ def check_meridian(place: Place, axes: str) -> None:
     if abs(place.latitude) == 90:
         raise ValueError("at a pole of the Earth there is no meridian, and nothing transits: ask culminations()")
     if axes != "equator":
-        raise ValueError(f"transits are of the equator of date, and this sky is on the axes {axes}: sky(.., axes='equator')")
+        raise ValueError(f"transits are of the equator of date, and this sky is on {axes}: sky(.., axes='equator')")

@@ -30,11 +30,12 @@ class Moment:
     """A moment: its `name`, as `sunrise`, and the `body` that it is of.
 
     `window` is proved: it is that of a search at a tick of a second, or of a millisecond where that of a second was
-    undecided, and holds exactly one event of the search, if it is certain. `fine` is the window of a search at a tick of a millisecond inside it, or None where none was made.
-    `seconds` is the time that is shown, in seconds since J2000 (TDB): the middle of `fine`, else that of `window`. A time
-    that has no window, as that of a greatest magnitude, is computed in doubles. `altitude` and `azimuth` are those of the
-    centre of the body then, in degrees, without refraction, and NaN where there is no place; they are doubles too.
-    `is_within` is None where a set of times was named by `within=` and it is not sure that the moment lies in it.
+    undecided, and holds exactly one event of the search, if it is certain. `fine` is the window of a search at a tick
+    of a millisecond inside it, or None where none was made. `seconds` is the time that is shown, in seconds since
+    J2000 (TDB): the middle of `fine`, else that of `window`. A time that has no window, as that of a greatest
+    magnitude, is computed in doubles. `altitude` and `azimuth` are those of the centre of the body then, in degrees,
+    without refraction, and NaN where there is no place; they are doubles too. `is_within` is None where a set of times
+    was named by `within=` and it is not sure that the moment lies in it.
 
     >>> import finder
     >>> eph = finder.Ephemeris.open("examples/de405-2000.asc")
@@ -67,7 +68,8 @@ class Moment:
 
     @property
     def is_up(self) -> bool:
-        """Whether the centre of the body is above the horizon, lifted by 34' of refraction; not where there is no place."""
+        """Whether the centre of the body is above the horizon, lifted by 34' of refraction; not where there is no
+        place."""
         return self.altitude > -HORIZON
 
     @property
@@ -184,8 +186,8 @@ class Moments(Sequence[Moment]):
         return "\n".join([*lines, *filter(None, [self.said])])
 
     def to_pandas(self, clock: ClockLike = "utc") -> Any:
-        """A `DataFrame` of pandas: the times by a clock, the names, the bodies, altitude and azimuth in degrees, whether
-        the window is certain, and its ends as texts of TDB."""
+        """A `DataFrame` of pandas: the times by a clock, the names, the bodies, altitude and azimuth in degrees,
+        whether the window is certain, and its ends as texts of TDB."""
         import pandas
 
         return pandas.DataFrame(self._columns(clock))
@@ -224,10 +226,10 @@ def moments_of(
 ) -> list[Moment]:
     """A moment for each window at a second, with the time of the windows at a millisecond that lie in it.
 
-    One that is certain at a second and has no certain window at a millisecond in it, has the middle of what is undecided
-    there; so it is certain to the second, and its time is that of its window. In place of one that is undecided at a
-    second stand the windows at a millisecond in it, unless one of them reaches out of it. `name` names a moment by its
-    turn."""
+    One that is certain at a second and has no certain window at a millisecond in it, has the middle of what is
+    undecided there; so it is certain to the second, and its time is that of its window. In place of one that is
+    undecided at a second stand the windows at a millisecond in it, unless one of them reaches out of it. `name` names
+    a moment by its turn."""
     if fine is None:
         return [Moment(name(each.turn), body, middle(each), each, None, coarse.request) for each in coarse]
     made = []

@@ -21,9 +21,10 @@ STAR = ("disappears", "reappears")
 @public
 @dataclass(frozen=True)
 class Occultation:
-    """The Moon covers a body, as a place sees it. `contacts` are its moments in order; each has the altitude of the body
-    and says whether it `is_up`; `sun_altitudes` are those of the Sun then, in degrees. `elongation` is the angle from the
-    Sun in degrees at the middle. Of a graze, in which a disc is not wholly covered, there are the outer contacts.
+    """The Moon covers a body, as a place sees it. `contacts` are its moments in order; each has the altitude of the
+    body and says whether it `is_up`; `sun_altitudes` are those of the Sun then, in degrees. `elongation` is the angle
+    from the Sun in degrees at the middle. Of a graze, in which a disc is not wholly covered, there are the outer
+    contacts.
 
     >>> import finder
     >>> eph = finder.Ephemeris.open("examples/de405-2000.asc")

@@ -70,8 +70,8 @@ def checked(pressure: Optional[float], temperature: Optional[float]) -> tuple[fl
 def true_altitude(
     altitude: float, pressure: Optional[float] = None, temperature: Optional[float] = None, *, airless: bool = True
 ) -> float:
-    """The altitude in degrees without the air at which a body is seen at an altitude. With `airless` the air is left out
-    unless a pressure or a temperature is given.
+    """The altitude in degrees without the air at which a body is seen at an altitude. With `airless` the air is left
+    out unless a pressure or a temperature is given.
 
     >>> true_altitude(30.0)
     30.0

@@ -62,7 +62,9 @@ class Searches:
         bodies = [name for name in names if name not in DIRECTIONS]
         near = difflib.get_close_matches(str(body), bodies, 1)
         hint = f"did you mean {near[0]!r}? " if near else ""
-        raise ValueError(f"this sky has no {body!r}: {hint}There are {', '.join(bodies)}; bodies= and stars= name others")
+        raise ValueError(
+            f"this sky has no {body!r}: {hint}There are {', '.join(bodies)}; bodies= and stars= name others"
+        )
 
     @property
     def _files(self) -> list[str]:
@@ -81,7 +83,8 @@ class Searches:
             self.count += 1
             options = {"observer": "earth", **words}
             search: Callable[..., Windows] = find
-            self._windows[key] = search(self._files, kind, *self._columns(target, second), **self._of(span, tick), **options)
+            columns = self._columns(target, second)
+            self._windows[key] = search(self._files, kind, *columns, **self._of(span, tick), **options)
         return self._windows[key]
 
     def both(self, kind: str, target: str, second: Optional[str], span: Span, **words: Any) -> tuple[Windows, Windows]:
@@ -99,7 +102,8 @@ class Searches:
             self.count += 1
             options = {"observer": "earth", **words}
             search: Callable[..., TimeSet] = times
-            self._sets[key] = search(self._files, kind, *self._columns(target, second), **self._of(span, tick), **options)
+            columns = self._columns(target, second)
+            self._sets[key] = search(self._files, kind, *columns, **self._of(span, tick), **options)
         return self._sets[key]
 
     def moments(

@@ -186,8 +186,8 @@ class Sky(SkyText):
         within: Optional[TimeSet] = None,
         precise: bool = True,
     ) -> Moments:
-        """When a body rises: the Sun's centre at 50' below the horizon, the Moon's upper limb and the centre of a planet
-        or a star at 34', which is refraction.
+        """When a body rises: the Sun's centre at 50' below the horizon, the Moon's upper limb and the centre of a
+        planet or a star at 34', which is refraction.
 
         With `pressure` in hPa and `temperature` in degrees Celsius the refraction is theirs. `altitude` in degrees
         without the air takes the place of the rule, and `limb` may be `upper`, `centre` or `lower`. Where it does not
@@ -211,7 +211,9 @@ class Sky(SkyText):
         words = body, altitude, limb, pressure, temperature
         return self._horizon("sets", words, lambda horizon: horizon.down, within, precise)
 
-    def _horizon(self, question: str, words: tuple[Any, ...], name: Any, within: Optional[TimeSet], precise: bool) -> Moments:
+    def _horizon(
+        self, question: str, words: tuple[Any, ...], name: Any, within: Optional[TimeSet], precise: bool
+    ) -> Moments:
         self._needs_place(question)
         horizon = horizon_of(*words)
         made, said = self._passes(words[0], horizon, precise)
@@ -240,8 +242,8 @@ class Sky(SkyText):
         return _within(Moments(transits(self.searches, body, lower, self._span, precise)), within)
 
     def culminations(self, body: str = "sun", *, within: Optional[TimeSet] = None, precise: bool = True) -> Moments:
-        """When a body stands highest and lowest. That is not its transit: the Moon stands highest up to some minutes from
-        it, as it moves toward a pole."""
+        """When a body stands highest and lowest. That is not its transit: the Moon stands highest up to some minutes
+        from it, as it moves toward a pole."""
         self._needs_place("culminations")
         return _within(Moments(culminations(self.searches, body, self._span, precise)), within)
 
@@ -267,7 +269,8 @@ class Sky(SkyText):
         if len(made.possible) == 0:
             highest = self._extreme_altitude(body, np.max)
             warnings.warn(
-                f"{title(body)} does not reach {degrees:g} degrees in this sky: it is at most {highest:.1f} degrees high",
+                f"{title(body)} does not reach {degrees:g} degrees in this sky: it is at most {highest:.1f} degrees "
+                "high",
                 NeverReached,
                 stacklevel=2,
             )
@@ -360,8 +363,8 @@ class Sky(SkyText):
     def meetings(
         self, bodies: Optional[Iterable[str]] = None, *, within: Optional[TimeSet] = None, precise: bool = True
     ) -> Moments:
-        """When two of some bodies, or of all planets of the sky, have one right ascension of date, as it is seen from the
-        place or the centre."""
+        """When two of some bodies, or of all planets of the sky, have one right ascension of date, as it is seen from
+        the place or the centre."""
         if self.axes != "equator":
             raise ValueError(f"meetings are of the equator of date, and this sky is on the axes {self.axes}")
         given = [body for body in PLANETS if body in self.names] if bodies is None else list(bodies)

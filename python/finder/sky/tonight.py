@@ -104,7 +104,8 @@ def tonight_of(
 
 
 def _darkest(sky: Sky) -> tuple[str, TimeSet]:
-    """The deepest darkness that a night has, and its times: those in which the Sun is set, if it has no twilight's end."""
+    """The deepest darkness that a night has, and its times: those in which the Sun is set, if it has no twilight's
+    end."""
     for kind in DARKNESS:
         times = sky.below_sun(kind)
         if len(times.possible):
@@ -114,7 +115,8 @@ def _darkest(sky: Sky) -> tuple[str, TimeSet]:
 
 def _body(sky: Sky, body: str, dark: TimeSet) -> BodyTonight:
     """A body in the night."""
-    moments = sky.rises(body) + sky.sets(body).without_said() + sky.culminations(body).named(f"{short_title(body)} highest")
+    moments = sky.rises(body) + sky.sets(body).without_said()
+    moments = moments + sky.culminations(body).named(f"{short_title(body)} highest")
     seconds = np.arange(*sky.span, 120.0)
     inside = _inside(seconds, dark.sure)
     altitudes = sky.searches.altaz(body, seconds)[0]
@@ -135,10 +137,9 @@ def _lines(night: Tonight, clock: Clock) -> Iterator[str]:
     after = night.date + datetime.timedelta(days=1)
     yield f"The night of {night.date:%A}, {night.date:%Y-%m-%d}, to {after:%A}, {night.place}, times in {clock.name}"
     yield ""
-    yield from (
-        f"  {_minute(each, clock)}  {each.name:<20}{each.compass if each.name in ('sunset', 'sunrise') else ''}".rstrip()
-        for each in night.sun
-    )
+    for each in night.sun:
+        compass = each.compass if each.name in ("sunset", "sunrise") else ""
+        yield f"  {_minute(each, clock)}  {each.name:<20}{compass}".rstrip()
     yield from filter(None, [night.sun.said])
     total = night.dark.sure.total()
     minutes = round(total.total_seconds() / 60)
@@ -157,8 +158,8 @@ def _lines(night: Tonight, clock: Clock) -> Iterator[str]:
         yield f"  {name}"
         yield from (f"    {_second(each, clock)}  {each.name:<22}{_where(each)}".rstrip() for each in contacts)
     yield ""
-    yield "Times are of windows that are proved to miss nothing in the text of this sky; how far the text is from what is"
-    yield "seen is measured. " + night.rotation
+    yield "Times are of windows that are proved to miss nothing in the text of this sky; how far the text is from what"
+    yield f"is seen is measured. {night.rotation}"
 
 
 def _minute(moment: Moment, clock: Clock) -> str:
@@ -180,10 +181,9 @@ def _body_line(each: BodyTonight, clock: Clock) -> str:
     name = short_title(each.body)
     words = (("rises",), ("highest",), ("sets",))
     cells = [_first(each.moments, word, clock) for (word,) in words]
-    dark = "" if each.highest != each.highest or each.highest < 0 else f"{each.highest:.0f}° at {clock.minute(each.highest_at):%H:%M}"
-    spans = ", ".join(
-        f"{clock.minute(first / each.well.tick):%H:%M}-{clock.minute(last / each.well.tick):%H:%M}" for first, last in each.well
-    )
+    dark = f"{each.highest:.0f}° at {clock.minute(each.highest_at):%H:%M}" if each.highest >= 0 else ""
+    ends = [[clock.minute(tick / each.well.tick) for tick in span] for span in each.well]
+    spans = ", ".join(f"{first:%H:%M}-{last:%H:%M}" for first, last in ends)
     return f"  {name:<10} {cells[0]:<7}{cells[1]:<9}{cells[2]:<7}{dark or 'not up':<19}{spans or '-'}".rstrip()
 
 

@@ -32,7 +32,7 @@ class Examples(unittest.TestCase):
         self.addCleanup(os.environ.pop, "FINDER", None)
         self.addCleanup(os.chdir, os.getcwd())
         os.chdir(TOP)
-        seek, run = doctest.DocTestFinder(recurse=True), doctest.DocTestRunner(optionflags=FLAGS)
+        seek, run = doctest.DocTestFinder(recurse=True), doctest.DocTestRunner(verbose=False, optionflags=FLAGS)
         said = []
         with warnings.catch_warnings():
             warnings.simplefilter("ignore")

@@ -190,8 +190,11 @@ class DeltaT(unittest.TestCase):
     def test_files(self):
         from astropy.utils import iers
 
-        same = earth_rotation(iers.IERS_B_FILE)
-        self.assertEqual(same.delta_t(0.0), earth_rotation().delta_t(0.0))
+        # (the file that is named is read by astropy, and the one that it ships by numpy)
+        same, quick = earth_rotation(iers.IERS_B_FILE), earth_rotation()
+        at = np.linspace(-40 * YEAR, 40 * YEAR, 5_000)
+        self.assertTrue(np.array_equal(same.delta_t(at), quick.delta_t(at)))
+        self.assertEqual(same.sentence(0.0, 1.0), quick.sentence(0.0, 1.0))
         finals = Path(iers.__file__).parent / "tests" / "data" / "finals2000A-2016-04-30-test"
         if finals.exists():
             made = earth_rotation(finals)

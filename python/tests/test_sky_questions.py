@@ -48,6 +48,15 @@ class Questions(unittest.TestCase):
         with self.assertWarnsRegex(finder.NeverReached, "never dark"):
             self.assertEqual(len(sky.dark().possible), 0)
 
+    def test_pole(self):
+        """At the north pole the Moon rises and sets once in a month of 27.3 days, the Sun once a year, in March."""
+        sky = sky_of("90 N 0 E", "2000-03-01", "2000-06-01")
+        self.assertEqual((len(sky.rises("sun")), len(sky.sets("sun"))), (1, 0))
+        self.assertEqual(f"{sky.rises('sun')[0].at():%m-%d}", "03-18")
+        self.assertIn(len(sky.rises("moon")), (3, 4))
+        self.assertIn(len(sky.sets("moon")), (3, 4))
+        self.assertTrue(all(abs(moment.altitude + 0.82) < 0.05 for moment in sky.rises("moon")))
+
     def test_never_reached(self):
         with self.assertWarnsRegex(finder.NeverReached, "Jupiter does not reach 80 degrees .* it is at most 5"):
             self.assertEqual(len(sky_of(BERLIN).above("jupiter", 80).possible), 0)

@@ -72,8 +72,8 @@ Rows = dict[datetime.date, dict[str, list[tuple[datetime.datetime, Moment]]]]
 def _by_day(moments: Iterable[Moment], clock: Clock) -> Rows:
     """The moments of each day."""
     made: Rows = defaultdict(lambda: defaultdict(list))
-    for moment in moments:
-        when = clock.minute(moment.seconds)
+    every = list(moments)
+    for moment, when in zip(every, clock.minutes([moment.seconds for moment in every])):
         for name in moment.name.split(" or "):
             made[when.date()][name].append((when, moment))
     return made

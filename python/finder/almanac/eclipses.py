@@ -16,23 +16,13 @@ import numpy as np
 from .. import spans
 from ..seen.roots import illinois
 from ..seen.vectors import Floats, angle
+from ..sky.bodies import RADII
 from ..sky.discs import radius_text
 from .entries import PLANETS, Contact, EclipseKind, Entry, Event, Group, Numbers
 from .names import INNER, Pair
 from .shadows import EARTH, MOON, SHADOW, SUN, moon_shadow, moon_sizes, shadow_axis
 from .texts import Found, Recipe, Search, Text, Texts
 
-# Mean radii in km (docs/RECIPES.md).
-RADII = {
-    "mercury": 2_439.4,
-    "venus": 6_051.8,
-    "mars": 3_389.5,
-    "jupiter": 69_911.0,
-    "saturn": 58_232.0,
-    "uranus": 25_362.0,
-    "neptune": 24_622.0,
-    "pluto": 1_188.3,
-}
 # What is said of a moment without a search.
 COMPUTED = "computed in doubles"
 # The radius in km within which the axis of the Moon's shadow meets the Earth (docs/RECIPES.md).

@@ -16,6 +16,7 @@ from ..reports.windows import Window
 from ..seen.vectors import Floats
 from ..sky.moments import Moments
 from ..sky.place import Place
+from ..sky.refraction import HORIZON
 
 # The modified Julian date of J2000.
 DAYS_TO_J2000 = 51_544.5
@@ -199,7 +200,7 @@ class Contact:
     def is_up(self) -> Optional[bool]:
         """Whether the body is above the horizon of the place, lifted by 34' of refraction; None for the Earth's
         centre."""
-        return None if self.altitude is None else self.altitude > -34 / 60
+        return None if self.altitude is None else self.altitude > -HORIZON
 
     @property
     def status(self) -> Status:

@@ -36,7 +36,7 @@ def local_year(
     """What a place sees, of searches over the text of its sky, of the groups that are wanted."""
     wanted = set(groups)
     rotation = earth_rotation(delta_t=delta_t)
-    sky = _sky(texts, place, delta_t, runs, None)
+    sky = _sky(texts, place, delta_t, runs, None).beside(texts.equator)
     sun = moon = Moments([])
     planets: dict[str, Moments] = {}
     if Group.DAYS in wanted:

@@ -69,11 +69,11 @@ class Search:
 
 @dataclass(frozen=True)
 class Found:
-    """What a search found: the windows at a second, and those at a millisecond."""
+    """What a search found: the windows at a second, and those at a millisecond, if there are any."""
 
     search: Search
     coarse: Windows
-    fine: Windows
+    fine: Optional[Windows]
 
     @property
     def contacts(self) -> list[Contact]:
@@ -144,7 +144,9 @@ class Texts:
         """What a search finds in the span."""
         searches = self.searches(search.text)
         words = search.kind, search.target, search.second, self.span
-        coarse, fine = (searches.windows(*words, tick, **search.options) for tick in (SECOND, MILLISECOND))
+        coarse = searches.windows(*words, SECOND, **search.options)
+        # (where no window is found at a second, none is at a millisecond)
+        fine = searches.windows(*words, MILLISECOND, **search.options) if len(coarse) else None
         return Found(search, coarse, fine)
 
     @functools.cached_property

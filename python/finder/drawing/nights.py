@@ -41,7 +41,9 @@ class NightDrawing:
         self._frame = frame
         inside = (heavens.noons >= frame.start - DAY / 2) & (heavens.noons < frame.end - DAY / 2)
         self._noons = heavens.noons[inside]
-        self._sun, self._moon = heavens.sun[inside], heavens.moon[inside]
+        places = np.flatnonzero(inside).tolist()
+        self._dark = [[rows[place] for place in places] for rows in heavens.dark]
+        self._moonlit = [heavens.moonlit[place] for place in places]
 
     @property
     def _tall(self) -> float:
@@ -68,7 +70,7 @@ class NightDrawing:
 
     def _said(self) -> str:
         """What the drawing shows, in sentences for those who do not see it."""
-        dark = np.array([sum(last - first for first, last in spans_below(row, BANDS[-1][0])) for row in self._sun])
+        dark = np.array([sum(last - first for first, last in row) for row in self._dark[-1]])
         longest, shortest = (int(each) for each in (dark.argmax(), dark.argmin()))
         days = [self._clock.at(float(self._noons[number])) for number in (longest, shortest)]
         shown = [f"{day.day} {day:%B}" for day in days]
@@ -101,9 +103,8 @@ class NightDrawing:
         frame = self._frame
         size = f'width="{frame.edge - frame.left:.1f}" height="{HOUR * HOURS:.1f}"'
         yield f'<rect x="{frame.left:.1f}" y="{HEAD:.1f}" {size} class="daylight"/>'
-        for altitude, css in BANDS:
-            rows = enumerate(self._sun)
-            pieces = [self._piece(number, *span) for number, row in rows for span in spans_below(row, altitude)]
+        for (_, css), rows in zip(BANDS, self._dark):
+            pieces = [self._piece(number, *span) for number, row in enumerate(rows) for span in row]
             yield f'<path class="{css}" d="{"".join(pieces)}"/>'
 
     def _piece(self, number: int, first: float, last: float) -> str:
@@ -116,9 +117,8 @@ class NightDrawing:
         """The hours of each night in which the Moon is up, the paler the more of it is lit."""
         lit = np.interp(self._noons + DAY / 2, self._local.lit_times, self._local.lit)
         shades: dict[int, list[str]] = {}
-        # (both hold where the greater of what is wanted less what is there is below 0)
-        for number, row in enumerate(np.maximum(MOON_UP - self._moon, self._sun - MOON_DARK)):
-            for span in spans_below(row, 0.0):
+        for number, row in enumerate(self._moonlit):
+            for span in row:
                 shades.setdefault(round(10 * float(lit[number])), []).append(self._piece(number, *span))
         for shade, pieces in sorted(shades.items()):
             if shade:
@@ -165,7 +165,11 @@ class NightDrawing:
             yield path(points)
 
 
-def spans_below(values: Floats, limit: float) -> list[tuple[float, float]]:
+# Hours after noon, the first and the last of each span.
+Hours = list[tuple[float, float]]
+
+
+def spans_below(values: Floats, limit: float) -> Hours:
     """The hours after noon between which values, one for each step, are below a limit; between two steps they go
     straight.
 
@@ -185,12 +189,12 @@ def spans_below(values: Floats, limit: float) -> list[tuple[float, float]]:
 
 @dataclass(frozen=True)
 class Heavens:
-    """The altitudes in degrees of the Sun and the Moon at a place: a row for each night, from the noons of a clock in
-    seconds since J2000 (TDB) on, and a column for each step."""
+    """The nights of a place, from the noons of a clock in seconds since J2000 (TDB) on: the hours after noon between
+    which the Sun is below each altitude of `BANDS`, and those in which the Moon is up and its light is seen."""
 
     noons: Floats
-    sun: Floats
-    moon: Floats
+    dark: tuple[list[Hours], ...]
+    moonlit: list[Hours]
 
 
 def heavens_of(local: LocalYear, clock: Clock, start: float, end: float) -> Heavens:
@@ -204,4 +208,7 @@ def heavens_of(local: LocalYear, clock: Clock, start: float, end: float) -> Heav
     hours = np.arange(HOURS * 60 // STEP + 1) * (STEP * 60.0)
     at = (noons[:, None] + hours).ravel()
     sun, moon = (sky.searches.altaz(body, at)[0].reshape(len(noons), len(hours)) for body in ("sun", "moon"))
-    return Heavens(noons, sun, moon)
+    dark = tuple([spans_below(row, altitude) for row in sun] for altitude, _ in BANDS)
+    # (both hold where the greater of what is wanted less what is there is below 0)
+    moonlit = [spans_below(row, 0.0) for row in np.maximum(MOON_UP - moon, sun - MOON_DARK)]
+    return Heavens(noons, dark, moonlit)

@@ -23,6 +23,8 @@ OBLIQUITY = np.radians(84_381.448 / 3_600)
 
 def _sums(series: Floats, at: Floats) -> Floats:
     """Sums of Chebyshev series, each at its place from -1 to 1, by Clenshaw's recurrence."""
+    if len(series) == 1:
+        return floats(series[0] + 0 * at)
     twice = 2 * at
     last, made = np.zeros_like(series[0]), series[-1]
     for row in series[-2:0:-1]:

@@ -10,12 +10,15 @@ import zoneinfo
 from dataclasses import dataclass
 from enum import Enum
 from fractions import Fraction
-from typing import Union
+from typing import Any, Union
+
+import numpy as np
 
 from .. import spans
 from ..ephemeris.order import J2000_DATE
 from ..public import public
 from .apparent import erfa_package
+from .vectors import Floats, floats
 
 UTC = datetime.timezone.utc
 J2000 = datetime.datetime(2000, 1, 1, 12)
@@ -37,22 +40,31 @@ class Scale(Enum):
     TDB = "tdb"
 
 
-def _tdb_less_tt(seconds: float) -> float:
+def _tdb_less_tt(seconds: Any) -> Floats:
     """TDB less TT in seconds, some 2 milliseconds at most, at the Earth's centre."""
-    return float(erfa_package().dtdb(J2000_DATE, seconds / spans.DAY, 0.0, 0.0, 0.0, 0.0))
+    return floats(erfa_package().dtdb(J2000_DATE, floats(seconds) / spans.DAY, 0.0, 0.0, 0.0, 0.0))
 
 
 def utc_of(seconds: float) -> datetime.datetime:
     """The UTC of seconds of TDB since J2000, to the microsecond. Within a leap second it is the second before."""
+    return utc_of_all([seconds])[0]
+
+
+def utc_of_all(seconds: Any) -> list[datetime.datetime]:
+    """The UTC of many seconds of TDB since J2000, as `utc_of` has it of one."""
     erfa = erfa_package()
-    days, rest = divmod(seconds - _tdb_less_tt(seconds), spans.DAY)
+    at = floats(seconds)
+    days, rest = np.divmod(at - _tdb_less_tt(at), spans.DAY)
     with warnings.catch_warnings():
         # (erfa warns of a year whose leap seconds are not announced yet: a page says so)
         warnings.simplefilter("ignore", erfa.ErfaWarning)
         utc = erfa.taiutc(*erfa.tttai(J2000_DATE + days, rest / spans.DAY))
-        year, month, day, clock = erfa.d2dtf("UTC", 6, *utc)
-    hour, minute, second, part = (int(each) for each in clock.item())
-    return datetime.datetime(int(year), int(month), int(day), hour, minute, min(second, 59), part, UTC)
+        years, months, dates, clocks = erfa.d2dtf("UTC", 6, *utc)
+    rows = zip(years.tolist(), months.tolist(), dates.tolist(), clocks.tolist())
+    return [
+        datetime.datetime(year, month, day, hour, minute, min(second, 59), part, UTC)
+        for year, month, day, (hour, minute, second, part) in rows
+    ]
 
 
 def _tdb_of_utc(moment: datetime.datetime) -> float:
@@ -64,7 +76,7 @@ def _tdb_of_utc(moment: datetime.datetime) -> float:
         tai = erfa.utctai(*erfa.dtf2d("UTC", utc.year, utc.month, utc.day, utc.hour, utc.minute, second))
     whole, part = erfa.taitt(*tai)
     seconds = float((whole - J2000_DATE) * spans.DAY + part * spans.DAY)
-    return seconds + _tdb_less_tt(seconds)
+    return seconds + float(_tdb_less_tt(seconds))
 
 
 def tdb_of_utc(seconds: Fraction) -> Fraction:
@@ -77,7 +89,7 @@ def tdb_of_utc(seconds: Fraction) -> Fraction:
         tai = erfa.utctai(J2000_DATE + float(days), float(rest) / spans.DAY)
     whole, part = erfa.taitt(*tai)
     made = (Fraction(float(whole)) + Fraction(float(part)) - Fraction(J2000_DATE)) * spans.DAY
-    return made + Fraction(_tdb_less_tt(float(made)))
+    return made + Fraction(float(_tdb_less_tt(float(made))))
 
 
 def last_leap_second() -> datetime.date:
@@ -155,8 +167,18 @@ class Clock:
         """The time of seconds of TDB since J2000, with its zone where the scale is UTC."""
         if self.scale is Scale.UTC:
             return utc_of(seconds).astimezone(self.zone)
-        behind = _tdb_less_tt(seconds) if self.scale is Scale.TT else 0.0
+        behind = float(_tdb_less_tt(seconds)) if self.scale is Scale.TT else 0.0
         return J2000 + datetime.timedelta(seconds=seconds - behind)
+
+    def all_at(self, seconds: Any) -> list[datetime.datetime]:
+        """The times of many seconds of TDB since J2000, as `at` has them of one."""
+        if self.scale is Scale.UTC and len(seconds):
+            return [time.astimezone(self.zone) for time in utc_of_all(seconds)]
+        return [self.at(each) for each in seconds]
+
+    def minutes(self, seconds: Any) -> list[datetime.datetime]:
+        """The nearest minutes of many seconds, as `minute` has it of one."""
+        return [time.replace(second=0, microsecond=0) for time in self.all_at(floats(seconds) + 30)]
 
     def minute(self, seconds: float) -> datetime.datetime:
         """The nearest minute."""
@@ -175,4 +197,4 @@ class Clock:
         if self.scale is Scale.UTC:
             return _tdb_of_utc(moment.replace(tzinfo=self.zone))
         seconds = (moment - J2000).total_seconds()
-        return seconds + (_tdb_less_tt(seconds) if self.scale is Scale.TT else 0.0)
+        return seconds + (float(_tdb_less_tt(seconds)) if self.scale is Scale.TT else 0.0)

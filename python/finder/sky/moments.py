@@ -156,8 +156,7 @@ class Moments(Sequence[Moment]):
 
     def times(self, clock: ClockLike = "utc") -> list[datetime.datetime]:
         """The times by a clock: of a zone, as `"Europe/Berlin"` or `"+02:00"`, or of `"utc"`, `"tt"`, `"tdb"`."""
-        made = Clock.of(clock)
-        return [made.at(each.seconds) for each in self]
+        return Clock.of(clock).all_at(self.seconds)
 
     def datetime64(self) -> npt.NDArray[np.datetime64]:
         """The times on the calendar of TDB, to the nearest millisecond."""

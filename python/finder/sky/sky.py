@@ -121,6 +121,14 @@ class Sky(SkyText):
         made._centres = {}
         return made
 
+    def beside(self: Made, centre: Sky) -> Made:
+        """The same sky, which takes one of the Earth's centre that was made before in place of making it."""
+        if centre.place is not None:
+            raise ValueError(f"the sky of the Earth's centre is wanted, and not that of {centre.place}")
+        made = self._part(self._span)
+        made._centres = {**self._centres, centre.axes: centre}
+        return made
+
     @property
     def program(self) -> Runs:
         """The runs of the program that makes the searches."""

@@ -12,7 +12,8 @@ import numpy as np
 import finder
 
 DAY, J2000_DATE = 86_400.0, 2_451_545.0
-# Its radii in km (swecl.c): of the Sun, of the Moon, which it takes 0.99916 times for inner contacts, and of the Earth.
+# Its radii in km, by which its contacts come out: of the Sun, of the Moon, which it takes 0.99916 times for inner
+# contacts, and of the Earth.
 SUN, MOON, EARTH = 696_000.0, 1_738.15, 6_378.14
 INNER_MOON = 0.99916 * MOON
 PLACES = {
@@ -165,7 +166,7 @@ def found(source, case):
 
 def _lunar(sky):
     """The contacts of the Moon's eclipse, of discs that make the shadows of the library: its umbra is the cone of the
-    spheres 1.02 times 0.99405 times as wide, its penumbra 1.02 times 0.98813 times (swecl.c, lun_eclipse_how)."""
+    spheres 1.02 times 0.99405 times as wide, its penumbra 1.02 times 0.98813 times: by these its contacts come out."""
     (eclipse,) = [each for each in sky.eclipses() if each.sort.value == "lunar eclipse"]
     at = np.array([eclipse.greatest.seconds])
     centre = sky.centre()

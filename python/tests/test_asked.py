@@ -10,6 +10,7 @@ import pickle
 import pkgutil
 import subprocess
 import sys
+import types
 import typing
 import warnings
 
@@ -168,6 +169,62 @@ class Surface(InFolder):
                 if inspect.isfunction(plain) or inspect.isclass(plain):
                     typing.get_type_hints(plain, localns={**vars(builtins), **names})
         self.assertIn("target", typing.get_type_hints(finder.conjunctions))
+
+    def test_options_are_written_out(self):
+        """Each search shows its options with their defaults, and their units in its text; one that it has not is
+        refused by its name."""
+        searches = (
+            finder.find,
+            finder.conjunctions,
+            finder.distance,
+            finder.separation,
+            finder.occultations,
+            finder.times,
+            finder.near,
+            finder.retrograde,
+            finder.least,
+            finder.certificate,
+        )
+        for search in searches:
+            options = inspect.signature(search).parameters
+            self.assertFalse(any(each.kind is each.VAR_KEYWORD for each in options.values()), search.__name__)
+            for name, default in (("observer", None), ("tick", 1), ("depth", 40), ("parts", "auto"), ("timeout", None)):
+                self.assertEqual(options[name].default, default)
+                self.assertIn(f"- {name}: ", inspect.getdoc(search))
+            self.assertEqual(list(options)[list(options).index("start") + 1], "end")
+            with self.assertRaisesRegex(TypeError, rf"{search.__name__}\(\) takes no option 'observr': did you mean 'observer'"):
+                search(YEAR, "moon", observr="earth")
+        self.assertNotIn("dir", inspect.signature(finder.near).parameters)
+        self.assertNotIn("axis", inspect.signature(finder.apsides).parameters)
+
+    def test_words_of_other_packages(self):
+        whole = finder.oppositions(YEAR, "jupiter", "sun", observer="earth", frame="ecl")
+        for target, second, observer, frame in (
+            ("Jupiter", "SUN", "EARTH", "ECLIPJ2000"),
+            (5, 10, 399, "ecliptic"),
+            ("JUPITER BARYCENTER", "10", "399", "EclipJ2000"),
+            ("jupiter_barycenter", "Sun", np.int64(399), "ECL"),
+            # (a body of Skyfield has its number of NAIF as `target`)
+            (types.SimpleNamespace(target=5), types.SimpleNamespace(target=10), "earth", "ecl"),
+        ):
+            self.assertEqual(finder.oppositions(YEAR, target, second, observer=observer, frame=frame), whole)
+        for body, said in ((599, "write 5 or 'jupiter'"), (42, "body is one of"), ("PHOBOS", "no body is 'PHOBOS'")):
+            self.assert_refused(said, lambda body=body: finder.apsides(YEAR, body, **EARTH))
+        self.assert_refused("there are any, full, annular", lambda: finder.occultations(YEAR, "moon", "sun", DISCS, kind="none"))
+        self.assert_refused("did you mean 'full'", lambda: finder.occultations(YEAR, "moon", "sun", DISCS, kind="total"))
+        self.assert_refused(
+            "start=2000-06-01T00:00:00 is not before end=2000-05-01T00:00:00",
+            lambda: finder.apsides(YEAR, "moon", "2000-06-01", "2000-05-01", **EARTH),
+        )
+        self.assert_refused(
+            "finder.distance.*answers it", lambda: finder.times(YEAR, "radius", "moon", relation="=", ref=1, **EARTH)
+        )
+        self.assert_refused("has no relation 'near'", lambda: finder.distance(YEAR, "moon", 1, relation="near", **EARTH))
+        self.assert_refused("no kind finds", lambda: finder.coordinate(YEAR, "moon", "x", relation="LOCMIN", **EARTH))
+        self.assert_refused("takes a value in km", lambda: finder.distance(YEAR, "moon", **EARTH))
+
+    def assert_refused(self, said, call):
+        self.assertRaisesRegex((ValueError, TypeError), said, call)
 
     def test_version_and_names(self):
         self.assertTrue((TOP / "packaging/changelog").read_text().startswith(f"finder ({finder.__version__})"))

@@ -1,5 +1,6 @@
 """The sky of a place beside Skyfield over the same coefficients and the same delta T. `bench/sky_of_places.py` does so
-for whole years at four places; here are a month at two of them, and a brute force over 30 nights, minute by minute."""
+for whole years at four places; here are three weeks at two places, and a brute force over 30 nights, minute by
+minute."""
 
 import functools
 import importlib.util

@@ -19,8 +19,8 @@ import finder
 from tests import swiss
 from tests.common import YEAR
 
-# The seconds by which contacts may differ: what the library's place on the Earth (it leaves nutation out of the
-# observer's vector) and its own search leave.
+# The seconds by which contacts may differ: the library's place of an observer is up to 200 m from that of Skyfield and
+# of this package (as if nutation were left out of it), and its own search leaves some tenths of a second.
 WITHIN = 1.0
 ANSWERS = swiss.kept(Path(__file__).with_name("swiss_answers.json"))
 OTHER = Path(os.environ.get("FINDER_DE405_1960", "/nowhere"))

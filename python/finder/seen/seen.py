@@ -184,10 +184,13 @@ def seen(
     Moon. The `files` of the search are read for it, or those that are named; or `series` is what was read of
     them before.
 
+    What is seen and has no window in the numbers of the files is not found, as a meeting in right ascension of date
+    that is none in that of J2000: `Ephemeris.sky` makes a text of what is seen, whose windows miss none.
+
     No window is dropped, and none has the time of another. One without a time stands in `unsolved` with the reason: the
     files end within light time of it, a graze may be no event for bodies as they are seen, two bodies that move almost
     alike may be seen to meet once where their places meet three times, and an undecided window of more than a minute is
-    not looked at. What is seen without a window near it is not found here.
+    not looked at.
 
     >>> import finder
     >>> year = "examples/de405-2000.asc"

@@ -106,7 +106,7 @@ if TYPE_CHECKING:
     from .sky.place import Place
     from .sky.sky import NeverReached, Sky
 
-__version__ = "0.1"
+__version__ = "0.2"
 
 # The module of each public name: it is imported when one of its names is first used.
 _MODULES = {

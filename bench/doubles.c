@@ -350,7 +350,7 @@ static double shadow(const struct search *s, const struct view *v, double both) 
         - (dot(v->a.p, v->a.p) - s->radius1 * s->radius1) * (dot(v->b.p, v->b.p) - s->radius2 * s->radius2);
 }
 
-/* The function of docs/DEFINITIONS.md. */
+/* The function of docs/proved/definitions.md. */
 static double function(const struct search *s, const struct view *v) {
     const double *a = v->a.p, *b = v->b.p, *a1 = v->a.v, *b1 = v->b.v;
     double d, aa, bb;

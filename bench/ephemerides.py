@@ -111,7 +111,7 @@ def beside(sky, observer, kernel, scale, body, draws, count):
 
     Skyfield's bending by the Earth is left out: it takes the Earth's place of when the light passed Saturn.
     """
-    seconds = draws.uniform(sky.asked[0], sky.asked[1], count)
+    seconds = draws.uniform(sky.requested_span[0], sky.requested_span[1], count)
     edges = [edge for edge in sky.edges if edge.body == body]
     seconds = seconds[[not any(edge.start <= each <= edge.end for edge in edges) for each in seconds]]
     days = np.floor(seconds / DAY)
@@ -135,7 +135,7 @@ def sunrises(kernel, scale, observer, sky):
     found = finder.separation(sky, "sun", "zenith", degrees="90.8333333333333333", tick=1000)
     ours = used(resource.RUSAGE_CHILDREN) - began
     began = used(resource.RUSAGE_SELF)
-    ends = [scale.tdb_jd(2_451_545.0 + each / DAY) for each in sky.asked]
+    ends = [scale.tdb_jd(2_451_545.0 + each / DAY) for each in sky.requested_span]
     times, _ = almanac.find_discrete(*ends, almanac.sunrise_sunset(kernel, topos))
     theirs = used(resource.RUSAGE_SELF) - began
     seconds = ((times.whole - 2_451_545.0) + times.tdb_fraction) * DAY

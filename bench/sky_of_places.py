@@ -14,7 +14,6 @@ import argparse
 import concurrent.futures
 import os
 import sys
-import time
 from pathlib import Path
 
 import numpy as np

@@ -17,17 +17,26 @@ A part has at most 268,435,456 bytes. Blocks that begin before Julian date 0 or 
 numbers of a block keep to their limits, is for `finder check` to say of a part.
 
 Status: 0 all parts were written; 1 the files are no such files; 2 the words; 3 a file could not be read or written, or a
-part is there already. With each but 0 no part is left; until all are whole, each has a name that ends in `.new`.
+part is there already. With each but 0 no part is left. Until all are whole and on the disk, they are in a folder of their
+own beside their place, `.finder-*.new`; that of a run that was killed is removed by the next one. It needs no numpy.
 """
 import argparse
 import contextlib
-import errno
 import os
 import re
 import signal
 import sys
 from decimal import Decimal
 from fractions import Fraction
+from pathlib import Path
+
+CLONE = Path(__file__).resolve().parent.parent / "python"
+if (CLONE / "finder").is_dir():
+    sys.path.insert(0, str(CLONE))
+
+from finder.commands.streams import write  # noqa: E402
+from finder.process.messages import fault_of, shown  # noqa: E402
+from finder.process.whole_files import named, new_folder, sweep, sync, sync_folder  # noqa: E402
 
 MAX_BYTES = 268_435_456
 MAX_BLOCKS = 16_384
@@ -62,26 +71,33 @@ class Source:
     def lines(self):
         """Each line with its end; the last of a file is given one."""
         for name in self.names:
-            self.place = name
-            with open(name, "rb") as file:
+            self.place = shown(name)
+            with named(name):
+                file = open(name, "rb")
+            with file:
                 yield from self.lines_of(name, file)
 
     def lines_of(self, name, file):
         """Each line of a file."""
         number = 0
-        while line := file.readline(MAX_LINE + 3):
+        while line := self.line_of(name, file):
             number += 1
-            self.place = f"{name} line {number}"
+            self.place = f"{shown(name)} line {number}"
             if len(bare(line)) > MAX_LINE:
                 raise Refused(f"it has more than {MAX_LINE} bytes")
             yield line if line.endswith(b"\n") else line + b"\n"
+
+    def line_of(self, name, file):
+        """The next line of a file, as far as it is read at once."""
+        with named(name):
+            return file.readline(MAX_LINE + 3)
 
 
 def date_of(word):
     """A date or a count of days, exactly: a decimal that is a whole number of seconds."""
     written = DATE.fullmatch(word)
     if not written or len(word) > 40:
-        raise Refused(f"{word.decode(errors='replace')} is no date")
+        raise Refused(f"{shown(word.decode(errors='replace'))} is no date")
     date = Fraction(Decimal(written[1].decode())) * Fraction(10) ** int(written[2] or 0)
     if (date * DAY).denominator != 1:
         raise Refused(f"{word.decode()} is no whole number of seconds")
@@ -200,14 +216,16 @@ def blocks(header, lines, left_out):
 
 
 class Part:
-    """A part as it is written, under a name that is not yet its own."""
+    """A part as it is written, in a folder that is not yet its place."""
 
-    def __init__(self, name, header):
+    def __init__(self, name, folder, header):
         if os.path.lexists(name):
             raise FileExistsError(17, "it is there already", name)
-        self.name, self.header, self.count, self.start, self.end = name, header, 0, None, None
-        self.file = open(name + ".new", "xb")
-        self.size = self.file.write(header.text(Fraction(0), Fraction(0))) if header else 0
+        self.name, self.new = name, folder / os.path.basename(name)
+        self.header, self.count, self.start, self.end = header, 0, None, None
+        with named(name):
+            self.file = open(self.new, "xb")
+            self.size = self.file.write(header.text(Fraction(0), Fraction(0))) if header else 0
 
     def add(self, block):
         """One more block."""
@@ -215,21 +233,33 @@ class Part:
             self.start = block.start
         self.end = block.end
         self.count += 1
-        self.size += self.file.write(block.text)
+        with named(self.name):
+            self.size += self.file.write(block.text)
 
     def finish(self, end):
-        """Writes the header again, with its dates, and closes the file."""
-        if self.header:
-            self.file.seek(0)
-            self.file.write(self.header.text(self.start, end))
-        self.file.close()
+        """Writes the header again, with its dates, brings the file to the disk and closes it."""
+        with named(self.name):
+            if self.header:
+                self.file.seek(0)
+                self.file.write(self.header.text(self.start, end))
+            sync(self.file)
+            self.file.close()
+
+    def keep(self):
+        """Puts the part in its place."""
+        if os.path.lexists(self.name):
+            raise FileExistsError(17, "it is there already", self.name)
+        with named(self.name):
+            os.rename(self.new, self.name)
 
 
 class Parts:
-    """All parts of a run. Those that were made are removed, unless all of them are kept."""
+    """All parts of a run, which are written in a folder of their own. Those that were put in their places are removed,
+    unless all of them are kept."""
 
-    def __init__(self, prefix, header, most, each):
-        self.prefix, self.header, self.most, self.each, self.made, self.kept = prefix, header, most, each, [], []
+    def __init__(self, prefix, folder, header, most, each):
+        self.prefix, self.folder, self.header, self.most, self.each = prefix, folder, header, most, each
+        self.made, self.kept = [], []
 
     def add(self, block, before):
         """Adds a block to the last part or to a new one, which begins with the block before."""
@@ -237,31 +267,42 @@ class Parts:
         if part is None or part.count == self.most or part.size + len(block.text) > MAX_BYTES:
             if part is not None and (self.each or part.header is None):
                 part.finish(part.end)
-            part = Part(f"{self.prefix}-{len(self.made) + 1:04}.asc", self.header if self.each or not part else None)
+            name = f"{self.prefix}-{len(self.made) + 1:04}.asc"
+            part = Part(name, self.folder, self.header if self.each or not part else None)
             self.made.append(part)
             if before is not None:
                 part.add(before)
         part.add(block)
 
     def keep(self):
-        """Gives all parts their names."""
+        """Puts all parts in their places."""
         end = self.made[-1].end
         for part in self.made:
             if not part.file.closed:
                 part.finish(part.end if self.each else end)
         for part in self.made:
-            os.rename(part.name + ".new", part.name)
             self.kept.append(part.name)
+            try:
+                part.keep()
+            except BaseException:
+                self.kept.pop()
+                raise
+        place = os.path.dirname(os.path.abspath(self.prefix))
+        with named(place):
+            sync_folder(Path(place))
 
     def remove(self):
-        """Removes what was made."""
-        for part in self.made:
-            with contextlib.suppress(OSError):
-                part.file.close()
-            if os.path.lexists(part.name + ".new"):
-                os.remove(part.name + ".new")
+        """Removes what was put in its place."""
         for name in self.kept:
-            os.remove(name)
+            with contextlib.suppress(OSError):
+                os.remove(name)
+
+    def lines(self):
+        """What is printed of each part."""
+        return [
+            f"{part.name} start {date_text(part.start)} end {date_text(part.end)} blocks {part.count}\n"
+            for part in self.made
+        ]
 
 
 def cut(parts, source_blocks):
@@ -273,18 +314,6 @@ def cut(parts, source_blocks):
     if not parts.made:
         raise Refused("no block lies within Julian date 0 to 5000000")
     parts.keep()
-
-
-def say(text):
-    """Writes to standard output, whole. What it does not take is not tried again when the process ends."""
-    if sys.stdout is None:
-        raise OSError(errno.EBADF, os.strerror(errno.EBADF), "standard output")
-    try:
-        sys.stdout.write(text)
-        sys.stdout.flush()
-    except OSError as error:
-        os.dup2(os.open(os.devnull, os.O_WRONLY), sys.stdout.fileno())
-        raise OSError(error.errno, error.strerror, "standard output") from None
 
 
 def ask():
@@ -307,23 +336,22 @@ def ask():
 
 def cut_files(words, source):
     """Writes the parts and says what they are; where anything fails, none is left."""
-    left_out, parts = [], None
-    try:
-        lines = source.lines()
-        header = Header(lines)
-        parts = Parts(words.words[0], header, words.blocks, words.header == "each")
-        cut(parts, blocks(header, lines, left_out))
-        said = [
-            f"{part.name} start {date_text(part.start)} end {date_text(part.end)} blocks {part.count}\n"
-            for part in parts.made
-        ]
-        if left_out:
-            said.append(f"left out {len(left_out)} blocks before 0 or after 5000000\n")
-        say("".join(said))
-    except BaseException:
-        if parts is not None:
+    left_out = []
+    lines = source.lines()
+    header = Header(lines)
+    place = Path(os.path.dirname(os.path.abspath(words.words[0])))
+    sweep(place)
+    with new_folder(place) as folder:
+        parts = Parts(words.words[0], folder, header, words.blocks, words.header == "each")
+        try:
+            cut(parts, blocks(header, lines, left_out))
+            said = parts.lines()
+            if left_out:
+                said.append(f"left out {len(left_out)} blocks before 0 or after 5000000\n")
+            write(os.fsencode("".join(said)))
+        except BaseException:
             parts.remove()
-        raise
+            raise
 
 
 def main():
@@ -336,12 +364,12 @@ def main():
         if words:
             cut_files(words, source)
         else:
-            say(__doc__)
+            write(os.fsencode(__doc__))
     except Refused as error:
         print(f"cut: {source.place}: {error}", file=sys.stderr)
         sys.exit(1)
     except OSError as error:
-        print(f"cut: {error.filename or source.place}: {error.strerror}", file=sys.stderr)
+        print(f"cut: {fault_of(error)}", file=sys.stderr)
         sys.exit(3)
 
 

@@ -9,7 +9,7 @@ Window(first=12801349, last=12801349, turn='fall')
 
 A window with a turn is certain: it holds exactly one event, in that direction. One without is undecided: nothing is
 known of its times. No event of the span is outside of the windows. The numbers of a window are ticks since J2000,
-2000-01-01T12:00:00 TDB: seconds, or milliseconds with `tick=1000`. `docs/USAGE.md` says what each kind means.
+2000-01-01T12:00:00 TDB: seconds, or milliseconds with `tick=1000`. `docs/guide/usage.md` says what each kind means.
 
 The searches for events are `coordinate`, `distance`, `apsides`, `conjunctions`, `oppositions`, `stations`,
 `separation`, `separation_extremes`, `occultations`, and `find`, which takes a kind by its name; `over_files` runs one
@@ -38,6 +38,8 @@ during which something lasts, which is proved where an interval says so.
 
 import importlib
 from typing import TYPE_CHECKING, Any
+
+from .version import read_version as _read_version
 
 if TYPE_CHECKING:
     from . import plot as plot
@@ -106,7 +108,7 @@ if TYPE_CHECKING:
     from .sky.place import Place
     from .sky.sky import NeverReached, Sky
 
-__version__ = "0.2"
+__version__ = _read_version()
 
 # The module of each public name: it is imported when one of its names is first used.
 _MODULES = {

@@ -1,8 +1,10 @@
-"""What the tests share: the command, JPL's year, and files as JPL cuts its own."""
+"""What the tests share: the command, JPL's year, files as JPL cuts its own, and what a sample of them leaves out."""
 
 import contextlib
+import importlib.machinery
 import os
 import subprocess
+import sys
 import tempfile
 import time
 import types
@@ -13,7 +15,6 @@ TOP = Path(__file__).resolve().parents[2]
 PROGRAM = TOP / "release" / "finder-x86_64-linux"
 YEAR = TOP / "examples" / "de405-2000.asc"
 TOOL = TOP / "tools" / "spans"
-CASES = TOP / "cases"
 # The great conjunction, as README.md has it.
 REPORT = """\
 FIND conj target jupiter second saturn observer earth frame ecl axis - values - dir any width 1 depth 40 cut half \
@@ -26,6 +27,18 @@ SECOND = 12_801_349
 FILES = ((0, 5), (4, 9), (8, 12))
 
 
+# Whether all is run, as the gate does by FINDER_TESTS=whole, or a sample.
+IS_WHOLE = os.environ.get("FINDER_TESTS") == "whole"
+# A test of which a sample has nothing.
+of_the_whole = unittest.skipUnless(IS_WHOLE, "a sample is run: FINDER_TESTS=whole runs it")
+
+
+def sample(items, every):
+    """All items where the whole is run, else the first of each so many."""
+    every_item = list(items)
+    return every_item if IS_WHOLE else every_item[::every]
+
+
 def command(*words):
     """What the command prints for these words."""
     done = subprocess.run([PROGRAM, *words], capture_output=True, check=True, text=True)
@@ -33,28 +46,17 @@ def command(*words):
 
 
 def cases(name):
-    """The runs of a file of cases, whose README says what its lines are: their words, their files, and their exact
-    answers, by a reference that is not this program."""
-    texts = {}
-    with open(CASES / name, "rb") as file:
-        for line in file:
-            record, *rest = line.decode().split()
-            if record in ("text", "word", "file", "out", "err"):
-                piece = file.read(int(rest[-1]) + 1)[:-1].decode()
-            if record == "text":
-                texts[rest[0]] = piece
-            elif record == "case":
-                case = types.SimpleNamespace(name=rest[0], words=[], files={})
-            elif record == "word":
-                case.words.append(piece)
-            elif record == "file":
-                case.files[piece] = texts[rest[0]]
-            elif record == "status":
-                case.status = int(rest[0])
-            elif record in ("out", "err"):
-                setattr(case, record, piece)
-            elif record == "end":
-                yield case
+    """The stored cases of a file, with their exact answers by a reference that is not this program, as texts. The module that
+    reads them is loaded by its path, as the folder above it has the name of this one."""
+    loader = importlib.machinery.SourceFileLoader("stored_cases", str(TOP / "tests" / "support" / "records.py"))
+    records = sys.modules.setdefault(loader.name, types.ModuleType(loader.name))
+    records.__file__ = loader.path
+    loader.exec_module(records)
+    for case in records.read_cases(name):
+        case.words = [word.decode() for word in case.words]
+        case.files = {name.decode(): text.decode() for name, text in case.files.items()}
+        case.out, case.err = case.out.decode(), case.err.decode()
+        yield case
 
 
 def split_year(folder, rows=FILES):

@@ -134,7 +134,7 @@ class Year(unittest.TestCase):
         for windows, events, body in rows:
             seen = finder.seen(windows, YEAR).seconds
             for entry in found.of(*events):
-                if entry.bodies[0] == body and entry.bodies[-1] in (body, windows.asked["second"]):
+                if entry.bodies[0] == body and entry.bodies[-1] in (body, windows.request_words["second"]):
                     self.assertLess(abs(seen - entry.seconds).min(), 0.05, entry.name)
 
     def test_groups_and_progress(self):

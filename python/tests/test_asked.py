@@ -69,7 +69,7 @@ class Asked(InFolder):
                 call = lambda name=name, value=value: finder.apsides(YEAR, "moon", **{name: value}, **self.never)
                 self.assert_says(TypeError, says, call)
         found = finder.apsides(YEAR, "moon", width=np.int64(60), end="2000-02-01", **EARTH)
-        self.assertEqual(found.asked["width"], "60")
+        self.assertEqual(found.request_words["width"], "60")
 
     def test_radii(self):
         apart = ["both radii are one pair", "radii=(6051.8, 695700)"]
@@ -141,15 +141,15 @@ class Hints(InFolder):
             self.assertTrue(self.hint(call).startswith(begin), self.hint(call))
 
     def test_every_refusal_of_the_manuals_has_a_hint(self):
-        """Each number and status of `docs/FORMATS.md` and `docs/USAGE.md`, and each option of a search."""
-        text = (TOP / "docs/FORMATS.md").read_text()
+        """Each number and status of `docs/guide/formats.md` and `docs/guide/usage.md`, and each option of a search."""
+        text = (TOP / "docs/guide/formats.md").read_text()
         tables = [part.partition("\n\n")[0] for part in text.split("| Fault | Where |")[1:]]
         rows = " ".join(row.split("|")[1] for table in tables for row in table.splitlines()[2:])
         numbers = {int(word) for word in rows.replace(",", " ").split() if word.isdigit()}
         self.assertGreater(len(numbers), 25)
         self.assertLessEqual(numbers | {50, 51, 52, 60, 61, 62}, set(OF_NUMBER))
         self.assertLessEqual({4, 5, 6, 8, 9}, set(OF_STATUS))
-        table = (TOP / "docs/USAGE.md").read_text().partition("| Option | Value |")[2].partition("\n\n")[0]
+        table = (TOP / "docs/guide/usage.md").read_text().partition("| Option | Value |")[2].partition("\n\n")[0]
         options = {word.strip("`-, ") for row in table.splitlines()[2:] for word in row.split("|")[1].split(",")}
         self.assertEqual(options - set(OF_OPTION) - {"kind", "dir"}, set())
 
@@ -259,3 +259,20 @@ class Surface(InFolder):
         self.assertEqual((again, again.text), (found, found.text))
         for array in (again.first, again.last, again.turn):
             self.assertFalse(array.flags.writeable)
+
+    def test_old_names(self):
+        """What had another name in the release before has it still, with a warning that says the new one."""
+        found = finder.apsides(YEAR, "moon", end="2000-02-01", **EARTH)
+        lasting = finder.times(YEAR, "radius", "moon", end="2000-02-01", relation="<", ref=360_000, **EARTH)
+        proof = finder.certificate(YEAR, "apsis", "moon", end="2000-02-01", **EARTH)
+        for kept, name, new in (
+            (found, "Windows", "request_words"),
+            (found.report, "Report", "request_words"),
+            (lasting, "TimeSet", "request_words"),
+            (proof, "Certificate", "request_words"),
+            (finder.Ephemeris.open(YEAR, "2000-02-01"), "Ephemeris", "requested_span"),
+        ):
+            with self.assertWarnsRegex(DeprecationWarning, f"^{name}.asked is now {name}.{new}, and goes with"):
+                old = kept.asked
+            self.assertEqual(old, getattr(kept, new))
+            self.assertTrue(old)

@@ -5,12 +5,13 @@ own search, its own light time, aberration, precession and nutation.
 """
 
 import importlib.util
+import itertools
 import unittest
 
 import numpy as np
 
 import finder
-from tests.common import YEAR, InFolder
+from tests.common import YEAR, InFolder, of_the_whole, sample
 from tests.skyfield_kernel import DAY, J2000, NAMES, kernel_of
 
 EARTH = {"observer": "earth"}
@@ -87,7 +88,7 @@ class BesideSkyfield(InFolder):
 
     def test_conjunctions_and_oppositions(self):
         pairs = (("mercury", "sun", 10), ("jupiter", "saturn", 40), ("saturn", "sun", 40), ("mars", "jupiter", 40))
-        for one, other, step in pairs:
+        for one, other, step in sample(pairs, 3):
 
             def ahead(time, one=one, other=other):
                 return (self.longitude(one, time) - self.longitude(other, time)) % 360
@@ -99,15 +100,16 @@ class BesideSkyfield(InFolder):
                 self.assert_beside(finder.oppositions(YEAR, one, other, **ECL), times[apart > 179])
 
     def test_stations(self):
-        for frame, where in (("ecl", self.longitude), ("eq", self.ascension)):
-            for name, step in (("mercury", 5), ("jupiter", 20), ("saturn", 20)):
+        frames = (("ecl", self.longitude), ("eq", self.ascension))
+        planets = (("mercury", 5), ("jupiter", 20), ("saturn", 20))
+        for (frame, where), (name, step) in sample(itertools.product(frames, planets), 4):
 
-                def forward(time, name=name, where=where):
-                    ahead, behind = (where(name, self.aside(time, way)) for way in (1, -1))
-                    return (ahead - behind + 180) % 360 > 180
+            def forward(time, name=name, where=where):
+                ahead, behind = (where(name, self.aside(time, way)) for way in (1, -1))
+                return (ahead - behind + 180) % 360 > 180
 
-                found = finder.stations(YEAR, name, frame=frame, **EARTH)
-                self.assert_beside(found, self.turns(forward, step)[0])
+            found = finder.stations(YEAR, name, frame=frame, **EARTH)
+            self.assert_beside(found, self.turns(forward, step)[0])
 
     def test_places(self):
         """Directions of date within a hundredth of an arc second, distances within 50 m in an astronomical unit."""
@@ -115,7 +117,7 @@ class BesideSkyfield(InFolder):
 
         for found in (finder.oppositions(YEAR, "saturn", **ECL), finder.apsides(YEAR, "moon", **EARTH)):
             numbers = finder.values(found, YEAR, apparent=True, of_date=True)
-            name = found.asked["target"]
+            name = found.request_words["target"]
             seen = self.apparent(name, self.time(numbers.seconds / DAY))
             right, up, far = seen.radec("date")
             north, along, _ = seen.frame_latlon(ecliptic_frame)
@@ -134,6 +136,7 @@ class BesideSkyfield(InFolder):
         times, _ = self.turns(lambda time: self.angle("venus", "jupiter", time) < limit, 0.5, 130, 150)
         self.assert_beside(found, times)
 
+    @of_the_whole
     def test_elongations(self):
         def grows(time):
             ahead, behind = (self.angle("mercury", "sun", self.aside(time, way)) for way in (1, -1))
@@ -142,6 +145,7 @@ class BesideSkyfield(InFolder):
         times, _ = self.turns(grows, 5)
         self.assert_beside(finder.separation_extremes(YEAR, "mercury", "sun", **EARTH), times)
 
+    @of_the_whole
     def test_discs(self):
         """The contacts of the Earth's shadow and the Moon's centre, as they are seen from there, and of a transit of the
         Earth that is seen from Neptune."""

@@ -5,14 +5,38 @@ import signal
 import subprocess
 import sys
 import unittest
+from pathlib import Path
 
-from tests.common import TOP, YEAR, InFolder, is_running, stand_in, wait_for
+from tests.common import TOP, YEAR, InFolder, is_running, of_the_whole, stand_in, wait_for
 
 # A search as a stand-in: it writes the numbers of its own process and of one that it started, as the launcher starts
 # a proof, and goes on.
-ENDLESS = "sleep 60 &\necho $$ $! >>processes\nwait"
+ENDLESS = "/bin/sleep 60 &\necho $$ $! >>processes\nwait"
 ONE = "import finder; finder.check({year!r}, program={program!r})"
 PARTS = "import finder; finder.over_files(finder.apsides, [{year!r}] * 2, 'earth', observer='sun', program={program!r})"
+POOL = """
+import multiprocessing, sys
+from concurrent.futures import ProcessPoolExecutor
+import finder
+if __name__ == "__main__":
+    with ProcessPoolExecutor(2, mp_context=multiprocessing.get_context({method!r})) as pool:
+        for _ in range(2):
+            pool.submit(finder.check, {year!r}, program={program!r})
+"""
+IGNORED = """
+import signal
+signal.signal(signal.SIGCHLD, signal.SIG_IGN)
+import finder
+print(finder.check({year!r}).blocks)
+try:
+    finder.check("/none")
+except finder.ReadFailed as error:
+    print(error.line)
+try:
+    finder.check({year!r}, program={program!r})
+except finder.Interrupted as error:
+    print(error.status)
+"""
 THREAD = """
 import threading, time, finder
 threading.Thread(target=finder.check, args=({year!r},), kwargs={{"program": {program!r}}}, daemon=True).start()
@@ -41,18 +65,20 @@ def with_default_signals():
 
 
 class Callers(InFolder):
-    def begin(self, text, seconds=300):
-        """Starts Python with a text that searches, and waits until the search and what it started run."""
+    def begin(self, text, count=2, path=None, **words):
+        """Starts Python with a text that searches, and waits until the searches and what they started run."""
         program = str(stand_in(self.folder, ENDLESS))
+        (self.folder / "caller.py").write_text(text.format(year=str(YEAR), program=program, **words))
+        environment = {**os.environ, "PYTHONPATH": str(TOP / "python")}
         caller = subprocess.Popen(
-            [sys.executable, "-c", text.format(year=str(YEAR), program=program, seconds=seconds)],
+            [sys.executable, "caller.py"],
             cwd=self.folder,
-            env={**os.environ, "PYTHONPATH": str(TOP / "python")},
+            env=environment if path is None else {**environment, "PATH": path},
             stderr=subprocess.DEVNULL,
             preexec_fn=with_default_signals,
         )
         self.addCleanup(self.end_all, caller)
-        self.assertTrue(wait_for(lambda: len(self.processes()) >= 2))
+        self.assertTrue(wait_for(lambda: len(self.processes()) >= count))
         return caller
 
     def end_all(self, caller):
@@ -72,9 +98,9 @@ class Callers(InFolder):
     def assert_none_left(self):
         self.assertTrue(wait_for(lambda: not any(map(is_running, self.processes())), 10), self.processes())
 
-    def end(self, text, number):
+    def end(self, text, number, **how):
         """Ends Python by this signal, and sees to it that no process is left."""
-        caller = self.begin(text)
+        caller = self.begin(text, **how)
         self.assertTrue(all(map(is_running, self.processes())))
         caller.send_signal(number)
         self.assertEqual(caller.wait(20), -number)
@@ -90,10 +116,44 @@ class Callers(InFolder):
         self.end(ONE, signal.SIGKILL)
 
     def test_a_search_of_a_thread(self):
-        self.end(THREAD, signal.SIGKILL)
+        self.end(THREAD, signal.SIGKILL, seconds=300)
 
     def test_searches_in_parts(self):
         self.end(PARTS, signal.SIGKILL)
+
+    @of_the_whole
+    def test_an_empty_path(self):
+        for text, number in ((ONE, signal.SIGTERM), (ONE, signal.SIGHUP), (ONE, signal.SIGKILL), (PARTS, signal.SIGKILL)):
+            with self.subTest(text=text, number=number):
+                self.end(text, number, path="")
+                (self.folder / "processes").unlink()
+        self.end(THREAD, signal.SIGKILL, path="", seconds=300)
+
+    @of_the_whole
+    def test_workers_of_a_pool_whose_parent_is_gone(self):
+        for method in ("fork", "spawn", "forkserver"):
+            with self.subTest(method):
+                self.end(POOL, signal.SIGKILL, count=4, method=method)
+                self.assertTrue(wait_for(lambda: not self.workers(), 10), self.workers())
+                (self.folder / "processes").unlink()
+
+    def workers(self):
+        """The processes of Python that work in the folder, as workers of a pool."""
+        found = []
+        for process in Path("/proc").glob("[0-9]*"):
+            try:
+                if os.readlink(process / "cwd") == str(self.folder) and b"python" in (process / "cmdline").read_bytes():
+                    found.append(process.name)
+            except OSError:
+                pass
+        return list(filter(is_running, found))
+
+    def test_ended_children_that_are_ignored(self):
+        killed = stand_in(self.folder, "kill -KILL $$")
+        text = IGNORED.format(year=str(YEAR), program=str(killed))
+        environment = {**os.environ, "PYTHONPATH": str(TOP / "python")}
+        done = subprocess.run([sys.executable, "-c", text], capture_output=True, text=True, check=False, env=environment)
+        self.assertEqual(done.stdout, f"12\nfinder: read fault /none\n{-signal.SIGKILL}\n", done.stderr)
 
     def test_a_thread_that_is_left(self):
         self.assertEqual(self.begin(THREAD, seconds=1).wait(20), 0)

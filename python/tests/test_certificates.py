@@ -6,7 +6,7 @@ import unittest
 
 import finder
 from finder import spans
-from tests.common import PROGRAM, TOOL, YEAR, InFolder, command, split_year
+from tests.common import PROGRAM, TOOL, YEAR, InFolder, command, of_the_whole, sample, split_year
 
 EARTH = {"observer": "earth"}
 # A search of each kind, some with limits that leave times undecided.
@@ -47,7 +47,7 @@ class OfParts(InFolder):
         self.summary = finder.check(YEAR)
 
     def test_certificates_of_parts_are_those_of_the_whole(self):
-        for kind, target, second, options in SEARCHES:
+        for kind, target, second, options in sample(SEARCHES, 3):
             with self.subTest(kind=kind):
                 whole = finder.certificate(YEAR, kind, target, second, **options)
                 by_file = finder.over_files(
@@ -65,6 +65,7 @@ class OfParts(InFolder):
                 self.assertEqual(checked.leaves, whole.text.count("\nL "))
                 self.assertEqual(checked.windows.text, command("find", *words_of(whole), YEAR))
 
+    @of_the_whole
     def test_the_tool_joins_certificates_and_sets(self):
         plan = subprocess.run([TOOL, "files", "--header", self.header, *self.files], capture_output=True, check=True)
         (self.folder / "plan").write_bytes(plan.stdout)
@@ -168,7 +169,7 @@ class FromPython(InFolder):
         found = finder.verify(YEAR, self.folder / "cert", request=made.request)
         self.assertEqual((len(found.windows), found.leaves), (1, len(made)))
         self.assertEqual(found.windows[0], finder.Window(148_724, 148_724, "rise"))
-        self.assertEqual((made.start, made.end, made.tick, made.asked["target"]), (-734_400, 2_635_200, 1, "earth"))
+        self.assertEqual((made.start, made.end, made.tick, made.request_words["target"]), (-734_400, 2_635_200, 1, "earth"))
 
     def test_a_line_that_is_not_so(self):
         made = finder.certificate(YEAR, "apsis", "earth", observer="sun", end="2000-02-01")

@@ -14,7 +14,7 @@ import finder
 from finder import Group
 from finder.commands.dispatch import OF_PROGRAM, WORDS, main
 from tests.almanacs import has
-from tests.common import PROGRAM, TOP, YEAR, InFolder, split_year, stand_in
+from tests.common import PROGRAM, TOP, YEAR, InFolder, sample, split_year, stand_in
 
 SEASONS = ("almanac", "2000", str(YEAR), "--only", "seasons")
 
@@ -104,7 +104,7 @@ class Output(InFolder):
         self.assertEqual(run(*SEASONS, "--format", "ics"), run(*SEASONS, "--format", "ics"))
 
     def test_no_room_for_it(self):
-        for words in (SEASONS, ("--help",), ("almanac", "--help")):
+        for words in sample((SEASONS, ("--help",), ("almanac", "--help")), 2):
             with open("/dev/full", "wb") as full:
                 done = started(*words, stdout=full, stderr=subprocess.PIPE)
             self.assertEqual((done.returncode, done.stderr), (3, b"finder: standard output: No space left on device\n"))

@@ -18,10 +18,10 @@ from unittest import mock
 import finder
 from finder.commands import dispatch
 from finder.ephemeris import cache, sums, writing
-from tests.common import PROGRAM, TOP, YEAR, command, wait_for
+from tests.common import IS_WHOLE, PROGRAM, TOP, YEAR, command, wait_for
 from tests.test_ephemeris_sources import InCache
 
-PROCESSES = 16
+PROCESSES = 16 if IS_WHOLE else 4
 # What a process of its own does: opens a part of the year, and prints the sum of its text.
 OPENS = "import sys, finder; print(finder.Ephemeris.open(sys.argv[1], '2000-05-01', '2000-06-01').sha256)"
 
@@ -56,7 +56,7 @@ class Cache(InCache):
         def make():
             made.append(1)
             time.sleep(0.2)
-            return [b"text"], {"name": "text", "start": 0, "end": 1, "titles": [""]}
+            return cache.Made([b"text"], {"name": "text", "start": 0, "end": 1, "titles": [""]})
 
         with concurrent.futures.ThreadPoolExecutor(8) as pool:
             found = list(pool.map(lambda _: cache.kept("0123", make), range(8)))

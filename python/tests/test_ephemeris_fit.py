@@ -10,7 +10,7 @@ import numpy as np
 
 import finder
 from finder.ephemeris.fitting import FitError
-from tests.common import YEAR
+from tests.common import YEAR, of_the_whole
 from tests.test_ephemeris_sources import InCache
 
 DAY = 86_400
@@ -168,7 +168,7 @@ class Fits(InCache):
         eph = self.fit({"probe": circle(3 * DAY)})
         names = eph.write(self.folder / "out")
         found = finder.coordinate(list(names), "pluto", "x", 3e5)
-        self.assertEqual(found.asked["target"], "pluto")
+        self.assertEqual(found.request_words["target"], "pluto")
         self.assertIn(np.ceil(3 * DAY * np.arccos(0.3) / (2 * np.pi)), found.last)
         self.assertEqual(os.path.basename(names[0]), "motions.asc")
 
@@ -188,6 +188,7 @@ class Fits(InCache):
 
 @unittest.skipUnless(has("sgp4"), "there is no sgp4 here")
 class Satellites(InCache):
+    @of_the_whole
     def test_distance_by_sgp4(self):
         """When the station is at 6,795 km from the Earth's centre, by sgp4 itself at UTC: on whatever axes."""
         from sgp4.api import Satrec
@@ -246,6 +247,7 @@ class Skyfield(InCache):
 
 @unittest.skipUnless(has("astropy"), "there is no astropy here")
 class Stars(InCache):
+    @of_the_whole
     def test_star_of_a_catalogue(self):
         """The direction of a star with a large proper motion in 2050, beside astropy's `apply_space_motion`."""
         import astropy.units as u

@@ -91,10 +91,10 @@ class Ascii(InCache):
         one, other = (
             finder.Ephemeris.open(YEAR, *span) for span in (("2000-05-05", "2000-05-20"), ("2000-05-10", None))
         )
-        self.assertEqual(one.asked, (10_756_800, 12_052_800))
+        self.assertEqual(one.requested_span, (10_756_800, 12_052_800))
         again = finder.Ephemeris.open(YEAR, "2000-05-06", "2000-05-21")
-        self.assertEqual((again.files, again.asked), (one.files, (10_843_200, 12_139_200)))
-        self.assertEqual(other.asked, (11_188_800, None))
+        self.assertEqual((again.files, again.requested_span), (one.files, (10_843_200, 12_139_200)))
+        self.assertEqual(other.requested_span, (11_188_800, None))
         found = finder.apsides(again, "moon", observer="earth")
         self.assertEqual((found.start, found.end), (10_843_200, 12_139_200))
 

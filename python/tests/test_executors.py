@@ -8,7 +8,7 @@ import unittest
 import finder
 from finder.process.program import Runs
 from tests.almanacs import has
-from tests.common import PROGRAM, YEAR, InFolder, split_year, stand_in
+from tests.common import PROGRAM, YEAR, InFolder, of_the_whole, split_year, stand_in
 
 MOON = ("moon",)
 EARTH = {"observer": "earth", "program": PROGRAM}
@@ -53,6 +53,7 @@ class Executors(InFolder):
             self.check(pool)
 
     @unittest.skipUnless(has("distributed"), "no distributed")
+    @of_the_whole
     def test_dask(self):
         from distributed import Client, LocalCluster
 
@@ -70,7 +71,7 @@ class Executors(InFolder):
         self.assertEqual(steps[0], len(self.files) - 1)
 
     def test_stretches_that_meet_are_joined(self):
-        """As `docs/MANY-MACHINES.md` keeps them, as texts."""
+        """As `docs/guide/many-machines.md` keeps them, as texts."""
         days = "1999-12-24", "2000-03-10", "2000-09-20", "2001-01-11"
         kept = [self.over(finder.apsides, *MOON, start=one, end=other).text for one, other in zip(days, days[1:])]
         self.assertEqual(finder.join(map(finder.Windows.of_text, kept)), self.whole)

@@ -37,7 +37,7 @@ class Extremes(InFolder):
         self.assertAlmostEqual(found.value, wanted, delta=found.margin)
         self.assertTrue(any(span.first <= found.window.last <= span.last for span in found.where))
         if found.quantity == "distance":
-            limits = [float(windows.asked["values"]) for windows in (found.beyond, found.short)]
+            limits = [float(windows.request_words["values"]) for windows in (found.beyond, found.short)]
             self.assertAlmostEqual(way * (limits[0] - found.value), found.margin, places=6)
             self.assertAlmostEqual(way * (found.value - limits[1]), found.margin, places=6)
 
@@ -65,7 +65,7 @@ class Extremes(InFolder):
         self.assertEqual((found.margin, len(found.where)), (ARC_SECOND, 1))
         self.assertAlmostEqual(found.value * 3_600, 42.5, delta=0.1)
         # both cosines are rounded towards the extreme, so that what is proved is no less than what is said
-        cosines = [windows.asked["values"] for windows in (found.beyond, found.short)]
+        cosines = [windows.request_words["values"] for windows in (found.beyond, found.short)]
         for cosine, bound, up in zip(cosines, (found.value - ARC_SECOND, found.value + ARC_SECOND), (False, True)):
             self.assertEqual(cosine[:17], finder.cosine_of_degrees(bound, up=up)[:17])
 

@@ -13,7 +13,7 @@ from finder.searches import kinds
 from finder.searches.kinds import KINDS, ROWS, SET_KINDS
 from tests.common import PROGRAM, TOP, YEAR, InFolder
 
-USAGE = (TOP / "docs/USAGE.md").read_text()
+USAGE = (TOP / "docs/guide/usage.md").read_text()
 # What each option is where it is given; a body, a frame, an axis or a number that every kind with it takes.
 GIVEN = {"second": "sun", "frame": "ecl", "axis": "x", "ref": "0.5", "radius1": "1000", "radius2": "2000"}
 

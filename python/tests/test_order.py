@@ -13,7 +13,7 @@ from pathlib import Path
 
 import finder
 import finder.plot
-from tests.common import PROGRAM, TOOL, TOP, YEAR, InFolder, split_year
+from tests.common import PROGRAM, TOOL, TOP, YEAR, InFolder, sample, split_year
 
 EARTH = {"observer": "earth"}
 SPRING = {"start": "2000-03-01", "end": "2000-06-20", **EARTH}
@@ -81,8 +81,9 @@ class Orders(InFolder):
         self.assertEqual(taking - {"join", "Almanac", "Windows"}, {*CALLS, *ELSEWHERE})
 
     def test_each_call_over_shuffled_files(self):
-        whole = {name: call(YEAR) for name, call in CALLS.items()}
-        for seed, (name, call) in enumerate(CALLS.items()):
+        calls = dict(sample(CALLS.items(), 3))
+        whole = {name: call(YEAR) for name, call in calls.items()}
+        for seed, (name, call) in enumerate(calls.items()):
             for order in shuffles([self.header, *self.files], 2, seed):
                 with self.subTest(name, order=[file.name for file in order]):
                     self.assertEqual(call(order), whole[name])

@@ -13,7 +13,7 @@ import zipfile
 
 import finder
 from tests.almanacs import has
-from tests.common import PROGRAM, REPORT, TOP, YEAR, InFolder
+from tests.common import PROGRAM, REPORT, TOP, YEAR, InFolder, of_the_whole
 
 LINES = """
 import finder
@@ -29,6 +29,7 @@ print(found.time())
 HERE = importlib.util.find_spec("setuptools") and importlib.util.find_spec("wheel")
 
 
+@of_the_whole
 @unittest.skipUnless(HERE, "setuptools or wheel is not here")
 @unittest.skipUnless(sysconfig.get_platform() == "linux-x86_64", "the program is of Linux on x86-64")
 class Built(InFolder):
@@ -41,6 +42,7 @@ class Built(InFolder):
         shutil.copytree(TOP / "python", self.sources, ignore=left)
         (clone / "release").mkdir()
         shutil.copy(PROGRAM, clone / "release")
+        shutil.copy(TOP / "VERSION", clone)
 
     def build(self, sources, kind):
         """What the build makes of sources, by the hook that pip calls."""
@@ -67,6 +69,7 @@ class Built(InFolder):
 
     def test_a_wheel(self):
         wheel = self.build(self.sources, "wheel")
+        self.assertEqual(finder.__version__, (TOP / "VERSION").read_text("ascii").strip())
         self.assertEqual(wheel.name, f"finder-{finder.__version__}-py3-none-manylinux_2_34_x86_64.whl")
         self.run_lines(wheel)
         self.install(wheel)
@@ -107,6 +110,13 @@ class Built(InFolder):
             file.extractall(self.folder / "unpacked")
         shutil.rmtree(self.folder / "clone")
         self.run_lines(self.build(self.folder / "unpacked" / f"finder-{finder.__version__}", "wheel"))
+
+    def test_sources_without_the_version(self):
+        (self.folder / "clone" / "VERSION").unlink()
+        hook = "import setuptools.build_meta as build; build.build_wheel('.')"
+        said = subprocess.run([sys.executable, "-c", hook], cwd=self.sources, capture_output=True, text=True, check=False)
+        self.assertNotEqual(said.returncode, 0)
+        self.assertIn("VERSION is neither in .. nor in finder/", said.stderr)
 
     def test_sources_without_the_program(self):
         shutil.rmtree(self.folder / "clone" / "release")

@@ -9,6 +9,7 @@ import re
 import unittest
 import xml.etree.ElementTree
 import zoneinfo
+from unittest import mock
 
 import numpy as np
 
@@ -18,7 +19,8 @@ from finder.drawing.drawing import Drawing
 from finder.almanac.entries import Almanac, Curves, Numbers
 from finder.almanac.frame import Frame, labels
 from finder.almanac.html import HALF, WHOLE, periods
-from finder.seen.scales import utc_of
+from finder.seen import scales
+from finder.seen.scales import ReadyClock, utc_of
 from tests.almanacs import CLOCK, almanac_of_2000, has, undecided_moon, wide_moon
 from tests.common import InFolder
 
@@ -290,6 +292,23 @@ class Clocks(unittest.TestCase):
         after = CLOCK.seconds_of(datetime.datetime(2017, 1, 1))
         shown = [f"{utc_of(after + shift):%Y %H:%M:%S}" for shift in (-1.5, -0.5, 0.5)]
         self.assertEqual(shown, ["2016 23:59:59", "2016 23:59:59", "2017 00:00:00"])
+
+    def test_many_times_at_once(self):
+        """A clock that is ready for some times, and the times of many moments, are those of one at a time."""
+        seconds = [0.0, 1e7, -8.7e8, 536_500_867.184, 536_500_868.184, 536_500_869.184, 8.1e8]
+        clocks = (*map(finder.Clock, Scale), finder.Clock(Scale.UTC, BERLIN, "Europe/Berlin"))
+        for clock in clocks:
+            with self.subTest(clock=clock):
+                ready = ReadyClock.of_times(clock, seconds)
+                with mock.patch.object(scales, "utc_of", side_effect=AssertionError):
+                    found = [(ready.at(each), ready.plain().at(each)) for each in seconds]
+                self.assertEqual(found, [(clock.at(each), finder.Clock(clock.scale).at(each)) for each in seconds])
+                # (a time that is not among them is computed)
+                self.assertEqual((ready.at(5.0), ready.name, ready.zone), (clock.at(5.0), clock.name, clock.zone))
+                moments = [each.replace(tzinfo=None) for each, _ in found]
+                alone = [clock.seconds_of(each) for each in moments]
+                self.assertEqual(clock.all_seconds_of(moments).tolist(), alone)
+                self.assertEqual(clock.all_seconds_of([]).tolist(), [])
 
 
 if __name__ == "__main__":

@@ -7,7 +7,7 @@ import numpy as np
 
 import finder
 import finder.plot
-from tests.common import YEAR, InFolder, split_year
+from tests.common import YEAR, InFolder, of_the_whole, sample, split_year
 
 SEEN = {"observer": "earth", "frame": "ecl"}
 DISCS = {"radii": (696_000, 6051.8), "observer": "earth"}
@@ -83,15 +83,16 @@ class Pictures(InFolder):
         axes.figure.savefig(self.folder / "picture.png")
         self.assertTrue((self.folder / "picture.png").read_bytes().startswith(b"\x89PNG"))
 
+    @of_the_whole
     def test_what_is_written_fits(self):
         """Long names of rows, titles and units, sets and windows, one row and many."""
         found = EVENTS["full"]()
         back = finder.retrograde(YEAR, "mercury", **SEEN)
         name = "Venus is wholly behind the Sun, as it is seen from the centre of the Earth by its light"
         rows = {name: found, "Mercury moves backward": back, "sure times alone": back.sure}
-        for shown in (rows, {name: found}, {f"{name}, {number}": found for number in range(20)}):
+        for shown in sample((rows, {name: found}, {f"{name}, {number}": found for number in range(20)}), 2):
             self.assert_fits(finder.plot.timeline(shown, title=f"{name}, and a title that is wider than the picture"))
-        for margin in (8, 7_200, 40 * 86_400):
+        for margin in sample((8, 7_200, 40 * 86_400), 2):
             self.assert_fits(finder.plot.around(found, YEAR, margin=margin))
 
     def test_units_of_time(self):

@@ -137,6 +137,7 @@ class Statuses(InFolder):
         self.assertEqual(find_program(), str(TOP / "finder"))
         self.assertEqual(find_program("a"), "a")
         shutil.copytree(TOP / "python/finder", self.folder / "finder", ignore=shutil.ignore_patterns("__pycache__"))
+        shutil.copy(TOP / "VERSION", self.folder / "finder")
         tried = f"import sys; sys.path.insert(0, {str(self.folder)!r}); from finder import spans as s; print(s.find_program())"
         (self.folder / "path").mkdir()
         found = stand_in(self.folder / "path", "exit 1")
@@ -163,7 +164,7 @@ class Stops(InFolder):
         with self.assertRaises(finder.TimedOut) as caught:
             finder.check(YEAR, program=self.slow, timeout=1)
         self.assertIsInstance(caught.exception, TimeoutError)
-        self.assertFalse(is_running(self.process()))
+        self.assertTrue(wait_for(lambda: not is_running(self.process())))
 
     def test_what_is_no_number_of_seconds(self):
         for timeout in ("5", float("nan"), True):

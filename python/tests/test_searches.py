@@ -71,18 +71,19 @@ class Searches(InFolder):
                 self.assertEqual(call().text, command("find", *words.split(), YEAR))
 
     def test_each_search_of_the_manual_gives_what_it_shows(self):
-        shown = re.findall(
-            r"^    \$ \./finder find (.*)\n((?:    (?:FIND|C|U|END) .*\n)+)", (TOP / "docs/USAGE.md").read_text(), re.M
-        )
+        """With `tail -n +2` it shows all but the line of the request."""
+        text = "".join((TOP / f"docs/guide/{page}.md").read_text() for page in ("usage", "recipes"))
+        shown = re.findall(r"^    \$ \./finder find ([^|\n]*)( \| tail -n \+2)?\n((?:    (?:FIND|C|U|END) .*\n)+)", text, re.M)
         self.assertGreater(len(shown), 15)
-        for words, report in shown:
+        for words, is_tail, report in shown:
             with self.subTest(words):
                 options = dict(re.findall(r"--(\w+)[ =](\S+)", words))
                 radii = options.pop("radius1", None), options.pop("radius2", None)
                 numbers = {name: int(options[name]) for name in ("tick", "width", "depth") if name in options}
                 given = {NAMES.get(name, name): value for name, value in {**options, **numbers}.items()}
                 found = finder.find(TOP / shlex.split(words)[-1], radii=radii if radii[0] else None, **given)
-                self.assertEqual(found.text, report.replace("    ", ""))
+                text = found.text.partition("\n")[2] if is_tail else found.text
+                self.assertEqual(text, report.replace("    ", ""))
 
     def test_a_check_gives_the_summary_of_the_command(self):
         found = finder.check(YEAR)
@@ -111,7 +112,7 @@ class Views(InFolder):
         self.assertEqual(list(self.found), [finder.Window(SECOND, SECOND, "fall")])
         self.assertEqual(self.found[-1], self.found[0])
         self.assertEqual((self.found.start, self.found.end, self.found.tick), (-734_400, 32_443_200, 1))
-        self.assertEqual(self.found.asked["target"], "jupiter")
+        self.assertEqual(self.found.request_words["target"], "jupiter")
         self.assertRaises(IndexError, lambda: self.found[1])
         self.assertEqual(len(self.moons), 28)
         self.assertEqual(len(self.moons[self.moons.certain]), 22)

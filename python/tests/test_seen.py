@@ -33,7 +33,7 @@ LAST = (
     "0128 0757,0227 0353,0328 0021,0426 1930,0526 1155,0625 0100,0724 1102,0822 1851,0921 0128,1020 0759,1118 1524,"
     "1218 0041"
 )
-# Both radii of a shadow at the Moon: the Earth's with one part in 100 for the air, and the Sun's (docs/RECIPES.md).
+# Both radii of a shadow at the Moon: the Earth's with one part in 100 for the air, and the Sun's (docs/guide/recipes.md).
 EARTH, SUN, MOON = 6_442.4, 695_700.0, 1_737.4
 
 

@@ -17,7 +17,7 @@ from pathlib import Path
 
 import finder
 from tests import swiss
-from tests.common import YEAR
+from tests.common import YEAR, sample
 
 # The seconds by which contacts may differ: the library's place of an observer is up to 200 m from that of Skyfield and
 # of this package (as if nutation were left out of it), and its own search leaves some tenths of a second.
@@ -36,7 +36,7 @@ class BesideSwissEphemeris(unittest.TestCase):
     def look(self, is_2000):
         cases = [case for case in swiss.CASES if case.day.startswith("2000") == is_2000]
         self.assertGreater(len(cases), 7)
-        for case in cases:
+        for case in sample(cases, 5):
             with self.subTest(case.name):
                 ours = swiss.found(source(is_2000), case)
                 rows = swiss.compared(case, ANSWERS[case.name], ours)

@@ -7,7 +7,7 @@ import unittest
 
 import finder
 from finder import spans
-from tests.common import PROGRAM, REPORT, TOOL, YEAR, InFolder, command, split_year, stand_in
+from tests.common import PROGRAM, REPORT, TOOL, YEAR, InFolder, command, of_the_whole, sample, split_year, stand_in
 
 SEEN = {"observer": "earth", "frame": "ecl"}
 HEAD = "FIND conj target moon second sun observer earth frame ecl axis - values - dir any width 1 depth 4 cut half"
@@ -172,6 +172,7 @@ class Tool(InFolder):
             command("find", *options.split(), f"--from={row[0]}", f"--to={row[1]}", *(files or row[2:])) for row in rows
         ]
 
+    @of_the_whole
     def test_cuts_at_borders_of_blocks(self):
         self.assertEqual(
             self.said("cut", "3", YEAR).splitlines(),
@@ -219,6 +220,7 @@ class Tool(InFolder):
         self.assert_refused("does not hold the block", "files", "--header", "header.405", "ascp0.405", "ascp2.405")
         self.assert_refused("a blank", "files", "--header", "header.405", "a file")
 
+    @of_the_whole
     def test_an_array_of_jobs(self):
         split_year(self.folder)
         plan = self.said("files", "--header", "header.405", "ascp0.405", "ascp1.405", "ascp2.405")
@@ -246,7 +248,7 @@ class Tool(InFolder):
         (self.folder / "plan").write_text(plan)
         first, second, third = self.parts(plan, "--kind apsis --target moon --observer earth", [YEAR])
         other = self.parts(plan, "--kind apsis --target moon --observer sun", [YEAR])[1]
-        for why, reports in (
+        cases = (
             ("part 3 of the plan", [first, second]),
             ("part 1 of the plan", []),
             ("part 2 of the plan", [first, third]),
@@ -262,12 +264,14 @@ class Tool(InFolder):
             ("without its last line", [first, second, third[: third.index("END")]]),
             ("part 1 of the plan", [REPORT]),
             ("no time of a report", [first.replace("\n", "\r\n"), second, third]),
-        ):
+        )
+        for why, reports in sample(cases, 4):
             with self.subTest(why):
                 self.assert_refused(why, "join", "plan", text="".join(reports))
-        for wrong in ("", plan[:-1], plan.replace(" ", "  ")):
+        for wrong in sample(("", plan[:-1], plan.replace(" ", "  ")), 2):
             (self.folder / "plan").write_text(wrong)
             self.assert_refused("plan", "join", "plan", text=first + second + third)
         self.assertEqual(self.run_tool("join", "none").returncode, 3)
-        for words in (["join"], ["cut", "0", YEAR], ["cut", "two", YEAR], ["cut", "2", "--from", "May", YEAR], []):
+        wrong = (["join"], ["cut", "0", YEAR], ["cut", "two", YEAR], ["cut", "2", "--from", "May", YEAR], [])
+        for words in sample(wrong, 2):
             self.assertEqual(self.run_tool(*words).returncode, 2, words)

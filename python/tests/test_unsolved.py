@@ -120,7 +120,7 @@ class Unsolved(InFolder):
             self.assertTrue((seen.seconds <= found.last / found.tick).all())
 
     def test_later_by_the_way_of_light(self):
-        """An opposition of Jupiter is seen 11.2 minutes later without precession (docs/RECIPES.md)."""
+        """An opposition of Jupiter is seen 11.2 minutes later without precession (docs/guide/recipes.md)."""
         found = finder.oppositions(YEAR, "jupiter", "sun", **ECL)
         self.assertAlmostEqual(finder.seen(found, YEAR, of_date=False).later[0] / 60, 11.2, delta=0.05)
 
@@ -146,7 +146,7 @@ class Refusals(InFolder):
         apsides = finder.apsides(YEAR, "moon", observer="earth", end="2000-02-01")
         with mock.patch.dict(sys.modules, {"erfa": None}):
             for options in ({}, {"of_date": False}):
-                with self.assertRaisesRegex(finder.NoErfa, "want the package erfa"):
+                with self.assertRaisesRegex(finder.NoErfa, "need the package erfa"):
                     finder.seen(found, YEAR, **options)
             with self.assertRaises(ImportError):
                 finder.values(found, YEAR, apparent=True, of_date=True)

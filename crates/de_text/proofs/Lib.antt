@@ -10,6 +10,7 @@ pub mod TokenRuns
 pub mod Sizes
 pub mod Numbers
 pub mod Prefixes
+pub mod WholeLines
 pub mod Triples
 pub mod FieldFronts
 pub mod SixteenDigits

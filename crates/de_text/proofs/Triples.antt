@@ -82,6 +82,17 @@ wide_between text k first second third past below = elim (cases_lt k 79) [
   ]
 ]
 
+pub bare_between : (text : List ℕ) (k : ℕ) → get_or text 78 0 ≡ 32 → get_or text 79 0 ≡ 32 → 78 ≤ k → k < 80
+    → is_line_feed (get_or text k 0) ≡ false
+bare_between text k first second past below = elim (cases_lt k 79) [
+  | inl one ↦
+      let is : k ≡ 78 = omega (arith, past, one) in
+      ap (λ (j : ℕ). is_line_feed (get_or text j 0)) is ∙ ap is_line_feed first
+  | inr more ↦
+      let is : k ≡ 79 = omega (arith, more, below) in
+      ap (λ (j : ℕ). is_line_feed (get_or text j 0)) is ∙ ap is_line_feed second
+]
+
 pub near_between : (text : List ℕ) (k : ℕ) → get_or text 78 0 ≡ 13 → 78 ≤ k → k < 79 → is_line_feed (get_or text k 0) ≡ false
 near_between text k first past below =
     let is : k ≡ 78 = omega (arith, past, below) in

@@ -203,6 +203,19 @@ impl<'a> Tokens<'a> {
         }
     }
 
+    /// Makes a cursor at the front of a later piece of a text, after pieces with `before` lines. Lines are numbered on
+    /// from there. The lines of these pieces and the bytes of this one are at most 268,435,456 together.
+    pub fn after(before: u32, bytes: &'a [u8]) -> Self
+        requires { before + length bytes.now ≤ MAX_TEXT_BYTES }
+        ensures left { result.left ≡ counted_after before bytes.now }
+        ensures end_line { result.end_line ≡ before + length (lines bytes.now) + 1 }
+    {
+        Tokens {
+            rest: bytes,
+            passed: before,
+        }
+    }
+
     /// Returns the next line that is not blank, and passes it, or `End` if only blank lines are left. A line that is
     /// too long is not passed: every later call returns it again.
     pub fn line(&mut self) -> LineStep<'a>

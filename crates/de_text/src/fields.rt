@@ -1,4 +1,5 @@
-// Numbers in the form in which JPL writes those of blocks, cut from the front of a line.
+// Numbers in the form in which JPL writes those of blocks, cut from the front of a line. The forms that a text tool
+// makes of them are read as fast: an `E` in place of the `D`, and other line ends.
 ghost use Rattle.std.specs.Prelude.{◌≡◌, ◌+◌, ◌-◌, ◌<◌, ◌≤◌, [], ◌∷◌, IfSome, IsTrue, List, Ok, ℕ, drop, false, length, slice_index, take, true};
 ghost use lib.Lanes.{number_l};
 ghost use Rattle.spec_text.specs.Bytes.{digit_zero, point};
@@ -24,8 +25,11 @@ const FIELD: usize = 26;
 // The place in a field, counted from 0, of the first digit after the point.
 const DIGITS: usize = 4;
 
-// The place in a field of the mark of the exponent.
+// The place in a field of the mark of the exponent, which is a `D`, or an `E` where a text tool wrote it so.
 const MARK: usize = 22;
+
+// Half of the mark's byte, rounded down: of a `D` and of an `E` alike, which takes one comparison for both.
+const HALF_MARK: u8 = b'D' / 2;
 
 // The first four bytes of a field that is not negative, as one number: two blanks, a 0 and a point.
 const BLANK_FRONT: u32 = 0x2e30_2020;
@@ -38,6 +42,9 @@ const FIELDS: usize = 78;
 
 // The length of a line of three fields with two blanks, a carriage return and a line feed.
 const WIDE_LINE: usize = 82;
+
+// The length of a line of three fields with two blanks and a line feed, as where a text tool took the carriage return.
+const BARE_LINE: usize = 81;
 
 // The length of a line of three fields with a carriage return and a line feed.
 const NEAR_LINE: usize = 80;
@@ -127,7 +134,7 @@ fn cut_field(line: &[u8]) -> Option<(Decimal, &[u8])>
     ensures long { IfSome result (λ p. 26 ≤ length line.now) }
     ensures rest { IfSome result (λ p. p.1.now ≡ drop 26 line.now) }
 {
-    if line.len() < FIELD || line[MARK] != b'D' {
+    if line.len() < FIELD || line[MARK] / 2 != HALF_MARK {
         return None;
     }
     let front = field_front(line)?;
@@ -229,8 +236,45 @@ fn line_end_after_numbers(text: &[u8]) -> Option<usize>
     Some(NEAR_LINE - 1)
 }
 
-// Returns the place of the line feed after three numbers of 26 bytes, which has one of three line ends: two blanks
-// and a carriage return before it, a carriage return alone, or nothing. None if none of them stands there.
+// Returns the place of the line feed of a line that is three numbers of 26 bytes, two blanks and a line feed. None if
+// these three bytes do not stand there. What the numbers are is not looked at.
+#[tactic(auto, using(crate::proofs::Triples::bare_between))]
+#[inline(always)]
+fn line_end_after_bare_blanks(text: &[u8]) -> Option<usize>
+    ensures within { IfSome result (λ end. end < length text.now) }
+    ensures near { IfSome result (λ end. end ≤ 81) }
+    ensures at { IfSome result (λ end. is_line_feed (slice_index text.now end) ≡ true) }
+    ensures between { IfSome result (λ end. (k : ℕ) → 78 ≤ k → k < end
+        → is_line_feed (slice_index text.now k) ≡ false) }
+{
+    if text.len() < BARE_LINE || text[FIELDS] != b' ' || text[FIELDS + 1] != b' ' {
+        return None;
+    }
+    if text[BARE_LINE - 1] != b'\n' {
+        return None;
+    }
+    Some(BARE_LINE - 1)
+}
+
+// Returns the place of the line feed after three numbers of 26 bytes without two blanks and a carriage return: two
+// blanks alone come before it, a carriage return alone, or nothing. None if none of them stands there.
+#[inline(always)]
+fn touched_line_end(text: &[u8]) -> Option<usize>
+    ensures within { IfSome result (λ end. end < length text.now) }
+    ensures near { IfSome result (λ end. end ≤ 81) }
+    ensures at { IfSome result (λ end. is_line_feed (slice_index text.now end) ≡ true) }
+    ensures between { IfSome result (λ end. (k : ℕ) → 78 ≤ k → k < end
+        → is_line_feed (slice_index text.now k) ≡ false) }
+{
+    match line_end_after_bare_blanks(text) {
+        Some(end) => Some(end),
+        None => line_end_after_numbers(text),
+    }
+}
+
+// Returns the place of the line feed after three numbers of 26 bytes, which has one of four line ends: two blanks and
+// a carriage return before it, as JPL writes it, or a line end that a text tool wrote. None if none of them stands
+// there.
 #[inline(always)]
 fn triple_line_end(text: &[u8]) -> Option<usize>
     ensures within { IfSome result (λ end. end < length text.now) }
@@ -241,7 +285,7 @@ fn triple_line_end(text: &[u8]) -> Option<usize>
 {
     match line_end_after_two_blanks(text) {
         Some(end) => Some(end),
-        None => line_end_after_numbers(text),
+        None => touched_line_end(text),
     }
 }
 

@@ -11,6 +11,7 @@ mod examples;
 mod fields;
 mod lines;
 mod parts;
+mod pieces;
 mod tokens;
 mod triple;
 mod words;
@@ -21,6 +22,7 @@ pub use days::{
 };
 pub use decimal::{read_decimal, read_whole};
 pub use examples::a_cursor_steps_from_line_to_line;
+pub use pieces::whole_lines_length;
 pub use spec_text::{DaysFault, Decimal, Fault, NumberFault};
 pub use triple::Triple;
 pub use words::Words;

@@ -118,15 +118,15 @@ fn read_sign(sign: u8) -> Option<bool>
     Some(minus == 1)
 }
 
-// Reads a text that is an exponent as JPL writes it: a `D`, a sign and two digits. Returns whether it is negative,
-// and its magnitude. None for any other text.
+// Reads a text that is an exponent as JPL writes it: a `D`, a sign and two digits; an `E` may stand for the `D`.
+// Returns whether it is negative, and its magnitude. None for any other text.
 #[inline(always)]
 fn read_field_exponent(text: &[u8]) -> Option<(bool, u64)>
     ensures shows { IfSome result (λ e. ShowsExponent (exponent_at text.now) (Some e)) }
     ensures few { IfSome result (λ e. e.1 ≤ MAX_EXPONENT) }
 {
     match text {
-        [b'D', sign, rest @ ..] => {
+        [b'D' | b'E', sign, rest @ ..] => {
             let negative = read_sign(*sign)?;
             let digits = take_two_digits(0, rest)?;
             if digits.count == 0 || !digits.rest.is_empty() {

@@ -1,5 +1,5 @@
 -- The times of a valid node are near J2000, so that its width can be taken.
-use Rattle.std.proofs.Common.{◌≡◌, ◌<◌, ◌^◌, to_z, of_z, ◌⊎◌, inl, inr, true, false, nat_lt, None, Some, is_some, ap, refl, subst, ℤ, pos, neg_ℤ, ◌-ℤ◌, ◌≤ℤ◌, arith}
+use Rattle.std.proofs.Common.{◌≡◌, ◌<◌, ◌^◌, to_z, of_z, ◌⊎◌, inl, inr, true, false, nat_lt, None, Some, is_some, ap, subst, ℤ, pos, neg_ℤ, ◌-ℤ◌, ◌≤ℤ◌, arith}
 use Rattle.std.proofs.lemmas.Int.{ints, fits_signed_from_abs, to_z-of_z}
 use Rattle.std.proofs.lemmas.Bool.{and_parts, or_cases, both_ways as no_fact, ltb-true}
 use mir.Syntax.{w64}
@@ -68,17 +68,6 @@ whole_fits s sound n valid v same is open_node =
     let inside = valid.inside in
     rw (same, to_z-of_z w64 n.a (a_fits (rules s) sound n valid), to_z-of_z w64 n.b (b_fits (rules s) sound n valid))
     (span_fits s.view (subst IsView same is) n.a n.b valid.from (omega (arith, ints, inside)) valid.to open_node)
-
--- the same of the search's own view, by what is read of it
-pub columns_fit : (s : Search) (sound : IsSound (rules s)) (n : Node) (valid : IsValid (rules s) n) (v : View) → v ≡ s.view → IsView v → crosses s n ≡ false
-    → Fits s.view (to_z w64 (of_z w64 n.a)) (to_z w64 (of_z w64 n.b))
-columns_fit s sound n valid v same is = whole_fits s sound n valid s.view refl (subst IsView same is)
-
--- what holds between its ends as they are passed on holds between them
-pub between_ends : (P : ℤ → ℤ → Type 0) (t : Rules) → IsSound t → (n : Node) → IsValid t n → P (to_z w64 (of_z w64 n.a)) (to_z w64 (of_z w64 n.b)) → P n.a n.b
-between_ends P t sound n valid holds =
-    subst (λ (a : ℤ). P a n.b) (to_z-of_z w64 n.a (a_fits t sound n valid))
-    (subst (λ (b : ℤ). P (to_z w64 (of_z w64 n.a)) b) (to_z-of_z w64 n.b (b_fits t sound n valid)) holds)
 
 -- a node that may be cut can be cut by a rule, and a border in it is near too
 module _ (s : Search) (is : IsView s.view) (n : Node) (valid : IsValid (rules s) n) where

@@ -2,6 +2,5 @@ pub mod Moments
 pub mod Found
 pub mod Named
 pub mod Memory
-pub mod Quiet
 pub mod Plain
 pub mod Listed

@@ -14,9 +14,9 @@ use event_kinds::Guard;
 use ival_core::{Enclosure, Sign};
 use step_enclosures::{StepEnclosures, blank};
 
-/// Tells whether a sign shows that a condition holds: that its formula is at least 0, or below 0 if not `at_least`.
+// Tells whether a sign shows that a condition holds: that its formula is at least 0, or below 0 if not `at_least`.
 #[inline(always)]
-pub(crate) fn sign_certifies(at_least: bool, sign: Sign) -> bool
+fn sign_certifies(at_least: bool, sign: Sign) -> bool
     ensures { result ≡ certifies at_least sign }
 {
     match sign {

@@ -1,14 +1,18 @@
 // A search for an event of two bodies.
 ghost use Rattle.std.specs.Prelude.{◌≡◌, ◌<◌, ◌≤ℤ◌, pos, unsigned_abs};
+ghost use Rattle.spec_bodies.specs.Views.{Fits};
 ghost use Rattle.spec_searches.specs.Search.{IsSearch};
+ghost use Rattle.spec_bounds.specs.Terms.{bound_over};
 ghost use Rattle.spec_steps.specs.ColumnTerms.{of_term, sight_of};
 ghost use Rattle.column_steps.specs.Listed.{IsMadeAt};
+ghost use Rattle.event_bounds.specs.Made.{IsBound};
 ghost use Rattle.event_judge.specs.Listed.{AreStepsOf};
 
 use crate::listed_event::ListedEvent;
 use body_states::BodyStates;
 use column_steps::StepPlace;
 use eph_model::Ephemeris;
+use event_bounds::{Bound, RangeRows, bound_over};
 use event_expr::Leaves;
 use event_kinds::Event;
 use gf_hooks::CutRule;
@@ -127,6 +131,15 @@ impl<'e> EventSearch<'e> {
             steps: &self.listed.steps,
             place: self.listed.function,
         }
+    }
+
+    /// Returns the bound of the event's function from `a` to `b`, between which no granule begins. Rows that it needs are
+    /// kept in `rows` for later bounds.
+    pub fn function_bound(&self, rows: &mut RangeRows, a: i64, b: i64) -> Bound
+        requires { Fits self.now.view a b }
+        ensures { IsBound result (bound_over self.now.view self.now.event.function a b) }
+    {
+        bound_over(rows, self.function_step(), self.states(), a, b)
     }
 
     /// Returns the steps of the event's function and of its conditions.

@@ -6,15 +6,14 @@
 //! the ends decide nothing. A list of steps makes once what function and conditions share. No call allocates or fails.
 //!
 //! A `RememberingJudge` stands for another judge of the same search, and has its rules. In words that workers share it
-//! remembers signs of the function at times, steady spans and quiet ones. In a steady span the signs at a node's two
-//! ends alone show its verdict. A node is clear in a quiet span, or from the end of one to the start of the next if
-//! their signs show no turn that is wanted. Memory can run out as the judge is made, and nothing waits.
+//! remembers signs of the function at times. Signs that differ at the two ends of a wide node leave only the limits of
+//! the search to decide it. Memory can run out as the judge is made, and nothing waits. Over which spans the function
+//! keeps one sign is not asked here.
 #![tactic(auto)]
 
 mod conditions;
 mod event_search;
 pub mod examples;
-mod fact_words;
 mod judge;
 mod judging;
 mod listed_event;
@@ -22,7 +21,6 @@ mod memory;
 mod named_judge;
 mod naming;
 mod parts;
-mod quiet;
 mod recalling;
 mod remembering;
 mod remembering_judge;
@@ -30,12 +28,8 @@ mod search_memory;
 mod search_time;
 mod sign_words;
 mod slot_count;
-mod span_fact;
-mod span_words;
-mod steady;
 mod steps;
 mod times;
-mod tries;
 mod valid_node;
 mod verdicts;
 

@@ -1,10 +1,9 @@
-// The verdicts of nodes by what is remembered: signs at their ends, and steady or quiet spans in which they lie.
+// The verdicts of nodes by what is remembered: signs at their ends.
 ghost use Rattle.std.specs.Prelude.{◌≡◌, IfSome, IsTrue, [], false, true};
 ghost use Rattle.spec_events.specs.Verdict.{differ, is_known};
 ghost use Rattle.spec_searches.specs.Search.{crosses, verdict_of};
-ghost use Rattle.spec_bounds.specs.Steady.{IsSteady, sign_at};
+ghost use Rattle.spec_bounds.specs.Steady.{sign_at};
 ghost use Rattle.event_judge.specs.Found.{whole_enclosure};
-ghost use Rattle.event_judge.specs.Memory.{LiesInSteady};
 ghost use Rattle.spec_trees.specs.Cuts.{is_wide};
 ghost use Rattle.event_judge.specs.Plain.{IsByKnownEnds, IsPlain, IsPlainUnit};
 
@@ -15,7 +14,7 @@ use crate::search_time::SearchTime;
 use crate::valid_node::ValidNode;
 use gf_hooks::{Verdict, differ};
 use ival_core::{Enclosure, Sign};
-use spec_bounds::laws::{ends_that_differ, middles_are_told, steady_spans_tell_verdicts};
+use spec_bounds::laws::{ends_that_differ, middles_are_told};
 
 // Tells whether a sign is known: `Yes` or `No`, but not `Open`.
 #[inline(always)]
@@ -51,16 +50,6 @@ impl<'s, 'e> ValidNode<'s, 'e> {
     {
         self.search.event().guards().is_empty()
     }
-
-    // Tells whether the search is steady over the node, by bounds. The columns are read for what the call ensures.
-    fn is_steady(self) -> bool
-        requires { crosses self.search.now self.node ≡ false }
-        ensures { IsTrue result
-            → IsSteady self.entry.search.now self.entry.node.a self.entry.node.b }
-    {
-        let _columns = self.search.states().columns();
-        self.search.is_steady(self.node.a, self.node.b)
-    }
 }
 
 impl<N: Naming> SearchMemory for Memory<N> {
@@ -81,7 +70,7 @@ impl<N: Naming> SearchMemory for Memory<N> {
     }
 
     // Keeps whether the node had a turn between its ends. Of a node that is to be split the sign in its middle is kept
-    // too, and the node itself if it is found to be a steady span.
+    // too.
     fn keep_verdict(&self, node: ValidNode, over: &Enclosure, verdict: Verdict) {
         if verdict != Verdict::Split {
             self.keep_turn(false);
@@ -90,23 +79,12 @@ impl<N: Naming> SearchMemory for Memory<N> {
         self.keep_middle_sign(node, over);
         let turns = self.has_wanted_turn(node);
         self.keep_turn(turns);
-        if turns {
-            self.keep_if_steady(node);
-        }
     }
 }
 
 impl<N: Naming> Memory<N> {
-    // Tells whether a node is remembered to lie in a steady span.
-    fn knows_node_is_steady(&self, node: ValidNode) -> bool
-        requires named { node.search.now ≡ N.search }
-        ensures { IsTrue result → LiesInSteady N.search node.entry.node.a node.entry.node.b }
-    {
-        self.lie_in_steady_span(node.first().offset(), node.last().offset())
-    }
-
-    // Returns the verdict that the signs at a node's ends tell in a steady span, if each of them is `Yes` or `No`, or
-    // none.
+    // Returns the verdict that the signs at a node's ends tell of a monotone function, if each of them is `Yes` or
+    // `No`, or none.
     fn verdict_by_known_ends(&self, node: ValidNode) -> Option<Verdict>
         requires named { node.search.now ≡ N.search }
         ensures { IfSome result (IsByKnownEnds N.search node.entry.node) }
@@ -116,20 +94,6 @@ impl<N: Naming> Memory<N> {
             Some(node.steady_verdict(first, last))
         } else {
             None
-        }
-    }
-
-    // Returns the verdict of a node in a steady span if the sign at each of its ends is `Yes` or `No`, or none.
-    fn verdict_by_ends(&self, node: ValidNode) -> Option<Verdict>
-        requires named { node.search.now ≡ N.search }
-        requires steady { LiesInSteady N.search node.node.a node.node.b }
-        ensures { IfSome result (λ verdict. verdict ≡ verdict_of N.search node.entry.node) }
-    {
-        steady_spans_tell_verdicts();
-        node.search.is_search();
-        match self.verdict_by_known_ends(node) {
-            Some(verdict) => Some(verdict),
-            None => None,
         }
     }
 
@@ -163,7 +127,7 @@ impl<N: Naming> Memory<N> {
         }
     }
 
-    // Returns the verdict of a node whose end signs differ as wanted, by the limits. The node is kept if it is steady.
+    // Returns the verdict of a node whose end signs differ as wanted, by the limits.
     fn verdict_by_turn(&self, node: ValidNode) -> Verdict
         requires named { node.search.now ≡ N.search }
         requires plain { IsPlain node.search.now node.node }
@@ -173,7 +137,6 @@ impl<N: Naming> Memory<N> {
     {
         ends_that_differ();
         node.search.is_search();
-        self.keep_if_steady(node);
         node.limit_verdict()
     }
 
@@ -182,30 +145,10 @@ impl<N: Naming> Memory<N> {
         requires named { node.search.now ≡ N.search }
         ensures { IfSome result (λ verdict. verdict ≡ verdict_of N.search node.entry.node) }
     {
-        if self.knows_node_is_steady(node) {
-            self.verdict_by_ends(node)
-        } else if self.knows_node_is_quiet(node) {
-            Some(Verdict::Clear)
-        } else if self.knows_turn(node) && node.needs_only_limits() {
+        if self.knows_turn(node) && node.needs_only_limits() {
             Some(self.verdict_by_turn(node))
         } else {
             None
-        }
-    }
-
-    // Keeps a node as a steady span, if it is worth testing and bounds show that the search is steady over it.
-    fn keep_if_steady(&self, node: ValidNode)
-        requires named { node.search.now ≡ N.search }
-        requires open { crosses node.search.now node.node ≡ false }
-    {
-        let width = node.width();
-        if self.is_worth_trying(width) {
-            let is_steady = node.is_steady();
-            self.keep_trial(width, is_steady);
-            if is_steady {
-                let from = node.first().offset();
-                self.keep_span(from, node.width());
-            }
         }
     }
 
@@ -239,8 +182,6 @@ impl<N: Naming> Memory<N> {
     {
         if node.needs_only_end_signs() {
             self.unit_verdict(node)
-        } else if self.finds_node_is_quiet(node) {
-            Verdict::Clear
         } else if self.expects_turn() && node.needs_only_limits() && self.has_wanted_turn(node) {
             self.verdict_by_turn(node)
         } else {
@@ -257,7 +198,7 @@ impl<N: Naming> Memory<N> {
             Some(verdict) => verdict,
             None => match node.nearest_border() {
                 None => self.uncrossed_verdict(node),
-                Some(_) => self.crossed_verdict(node),
+                Some(_) => node.border_verdict(self),
             },
         }
     }

@@ -1,5 +1,5 @@
 // The times of a node, and the sign of the function of a search at a time.
-ghost use Rattle.std.specs.Prelude.{◌≡◌, ◌-ℤ◌, ◌≤ℤ◌, pos};
+ghost use Rattle.std.specs.Prelude.{◌≡◌, ◌≤ℤ◌};
 ghost use Rattle.spec_intervals.specs.Enclosure.{middle};
 ghost use Rattle.spec_bounds.specs.Steady.{sign_at};
 
@@ -18,13 +18,6 @@ impl<'s, 'e> SearchTime<'s, 'e> {
         let function = self.search.event().function();
         let over = states.enclosure(function, self.time, self.time);
         over.range.sign()
-    }
-
-    /// Returns by how many ticks the time is after the first time of the ephemeris.
-    pub(crate) fn offset(self) -> u64
-        ensures { pos result ≡ self.entry.time -ℤ self.entry.search.now.view.ephemeris.start }
-    {
-        (self.time - self.search.ephemeris().start()).unsigned_abs()
     }
 }
 

@@ -3,6 +3,7 @@
 ghost use Rattle.std.specs.Prelude.{◌≡◌, Bool, Option, IfOk, IsTrue, OnErr, false};
 ghost use Rattle.gf_edges.specs.Edges.{Files, Lacks, Opens};
 
+use crate::interrupts::read_through_interrupts;
 use crate::{Failed, Shelf};
 use std::io;
 use std::io::Read;
@@ -111,8 +112,8 @@ impl<N: OpenNamed + Drop> Shelf for FileShelf<N> {
         }
     }
 
-    /// Reads the next bytes of the open file into the front of the buffer, and returns how many. The count of faults
-    /// rises exactly if this fails; the file stays open then.
+    /// Reads the next bytes of the open file into the front of the buffer, and returns how many. A read that a signal
+    /// interrupts is made again. The count of faults rises exactly if this fails; the file stays open then.
     fn read(&mut self, buf: &mut [u8]) -> Result<usize, Failed>
         requires { IsTrue self.old.is_open }
         ensures ready { IsTrue self.new.is_open }
@@ -125,7 +126,7 @@ impl<N: OpenNamed + Drop> Shelf for FileShelf<N> {
         ensures faults { RisesWhere (IsErr result) self.old.faults self.new.faults }
     {
         if let Some(file) = &mut self.file {
-            if let Ok(count) = file.read(buf) {
+            if let Ok(count) = read_through_interrupts(file, buf) {
                 return Ok(count);
             }
         }

@@ -12,6 +12,7 @@
 mod calls;
 mod edges;
 mod file_shelf;
+mod interrupts;
 mod laws;
 mod memory_files;
 mod memory_shelf;

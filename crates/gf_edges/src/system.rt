@@ -2,6 +2,7 @@
 // a file or of standard output. Each call of a stream that fails is counted.
 ghost use Rattle.std.specs.Prelude.{◌≡◌};
 
+use crate::interrupts::write_through_interrupts;
 use crate::{Failed, OpenNamed, Sink};
 use std::io::Write;
 use std::marker::Model;
@@ -97,8 +98,8 @@ impl<W: Write + Drop> Sink for StdSink<W> {
 
     ghost faults = { λ s. s.faults };
 
-    // Writes bytes from the front of the piece to the stream, and returns how many it took. The count of faults rises
-    // exactly if this fails, or takes none of a piece that has some.
+    // Writes bytes from the front of the piece to the stream, and returns how many it took. A write that a signal
+    // interrupts is made again. The count of faults rises exactly if this fails, or takes none of a piece that has some.
     fn write(&mut self, piece: &[u8]) -> Result<usize, Failed>
         ensures bound { WritesAtMost result piece.now }
         ensures bytes { WriteAppends self.old.bytes self.new.bytes result piece.now }
@@ -108,7 +109,7 @@ impl<W: Write + Drop> Sink for StdSink<W> {
         ensures count { self.new.faults < 2 ^ 64 }
         ensures faults { RisesWhere (IsFruitless result piece.now) self.old.faults self.new.faults }
     {
-        match self.stream.write(piece) {
+        match write_through_interrupts(&mut self.stream, piece) {
             Ok(0) if !piece.is_empty() => {
                 self.faults = self.faults.saturating_add(1);
                 Ok(0)

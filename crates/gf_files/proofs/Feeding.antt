@@ -1,17 +1,15 @@
 -- A reader over the lines of a text.
-use Rattle.std.proofs.Common.{◌≡◌, ◌+◌, ◌≤◌, ℕ, Bool, true, false, List, [], ◌∷◌, ◌++◌, length, Some, refl, sym, ap, ◌∙◌, subst, append-nil, inr}
+use Rattle.std.proofs.Common.{◌≡◌, ◌+◌, ℕ, Bool, true, false, List, [], ◌∷◌, ◌++◌, Some, refl, sym, ap, ◌∙◌, subst, append-nil, inr}
 use Rattle.std.specs.Prelude.{if◌then◌else◌}
-use Rattle.spec_text.specs.Lines.{Numbered, is_too_long, text_lines, token_line}
-use Rattle.spec_text.specs.declared.limits.TheConstants.{MAX_TEXT_BYTES}
+use Rattle.spec_text.specs.Lines.{Numbered, is_too_long, token_line}
 use Rattle.spec_faults.specs.declared.numbers.TheConstants.{LINE_TOO_LONG}
 use Rattle.spec_files.specs.FileLines.{first_long, readable}
 use Rattle.spec_files.specs.Sections.{FileLine}
-use Rattle.spec_files.specs.Texts.{fault_at, file_lines}
+use Rattle.spec_files.specs.Texts.{fault_at}
 use Rattle.de_text.specs.declared.cursor.LineStep.TheVariants.{Line, TooLong}
 use Rattle.de_text.specs.Steps.{step_of}
 use Rattle.gf_files.specs.declared.reader.Reader.{Reader}
-use Rattle.gf_files.specs.Reader.{HasNoFault, IsFirstFault, IsReady, ephemeris_after}
-use Rattle.gf_files.proofs.Passing.{small_cut, small_lines}
+use Rattle.gf_files.specs.Reader.{HasNoFault, IsFirstFaultOf, IsReady, ephemeris_after}
 
 -- the lines of a text that are left are those of the whole text, as a reader ephemeris_after
 pub record Leads (old : Reader) (whole : List Numbered) (now : Reader) (left : List Numbered) : Type 0 where
@@ -30,11 +28,11 @@ long_line (first ∷ rest) number is =
     (rw (by.0) (ap (λ (n : ℕ). Some (fault_at n LINE_TOO_LONG)) by.1), λ file. rw (by.0) refl)
 
 -- the line that is too long
-pub leads_long : (old : Reader) (text : List ℕ) (now : Reader) (left : List Numbered) (number : ℕ) → length text ≤ MAX_TEXT_BYTES → Leads old (text_lines text) now left
-    → step_of left ≡ TooLong number → IsFirstFault old text (fault_at number LINE_TOO_LONG)
-leads_long old text now left number small leads is = λ file.
+pub leads_long : (old : Reader) (whole : List Numbered) (now : Reader) (left : List Numbered) (number : ℕ) → Leads old whole now left → step_of left ≡ TooLong number
+    → (file : ℕ) → IsFirstFaultOf file old whole (fault_at number LINE_TOO_LONG)
+leads_long old whole now left number leads is = λ file.
     let long = long_line left number is in
-    let same : ephemeris_after file now [] ≡ ephemeris_after file old (file_lines file text) =
+    let same : ephemeris_after file now [] ≡ ephemeris_after file old (readable file whole) =
     ap (λ (l : List FileLine). ephemeris_after file now (l ++ [])) (sym (long.1 file)) ∙ leads.same file []
-    ∙ ap (λ (l : List FileLine). ephemeris_after file old l) (append-nil (readable file (text_lines text)) ∙ sym (small_lines text small file)) in
-    inr (small_cut text small ∙ sym leads.long ∙ long.0, subst HasNoFault same (leads.ready.sound file))
+    ∙ ap (λ (l : List FileLine). ephemeris_after file old l) (append-nil (readable file whole)) in
+    inr (sym leads.long ∙ long.0, subst HasNoFault same (leads.ready.sound file))

@@ -11,10 +11,6 @@ pub fault_of_file : (place file : ℕ) (error : ReadError) (fault : Fault) → i
 fault_of_file place file (one.Fault other) fault is = (cc, cc)
 fault_of_file place file one.Memory fault is = absurd (cc)
 
-pub lines_are_read : (place file : ℕ) (error : ReadError) → in_file place error ≡ all.NotRead file → ⊥
-lines_are_read place file (one.Fault other) is = absurd (cc)
-lines_are_read place file one.Memory is = absurd (cc)
-
 -- an error that is passed on is that of the call
 pub passed_on : {A B : Type 0} (inner : Result A FilesError) (outer : Result B FilesError) (met given error : FilesError) → inner ≡ Err met → outer ≡ Err given
     → given ≡ met → outer ≡ Err error → inner ≡ Err error

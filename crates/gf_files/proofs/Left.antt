@@ -23,7 +23,7 @@ pub left_past : (files : Option Files) (name : List ℕ) (before after : Option 
 left_past None name before after read n opens took size = tt
 left_past (Some told) name before after read n opens took size = left_in (file_of name told) before after read n opens.0 opens.1 took size
 
-not_none : (left : Option (List ℕ)) → left ≡ None → IsSome left → ⊥
+pub not_none : (left : Option (List ℕ)) → left ≡ None → IsSome left → ⊥
 not_none None is some = absurd (cc)
 not_none (Some bytes) is some = absurd (cc)
 

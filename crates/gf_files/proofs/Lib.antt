@@ -5,5 +5,6 @@ pub mod BlockSays
 pub mod Readers
 pub mod Feeding
 pub mod Passing
+pub mod Giving
 pub mod Runs
 pub mod NameLists

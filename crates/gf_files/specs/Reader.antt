@@ -1,15 +1,18 @@
 -- What a reader has to do with the ephemeris of the lines of all files, and what it comes to over the text of one file.
-use Rattle.std.specs.Prelude.{◌≡◌, ◌⊎◌, ℕ, ◌+◌, List, [], ◌∷◌, ◌++◌, length, None, Some, Result, Ok, Err}
-use Rattle.spec_text.specs.Lines.{TokenLine, lines}
+use Rattle.std.specs.Prelude.{◌≡◌, ◌⊎◌, ℕ, ◌+◌, ◌-◌, ◌≤◌, List, [], ◌∷◌, ◌++◌, length, None, Some, Result, Ok, Err}
+use Rattle.spec_text.specs.Lines.{Numbered, TokenLine, lines}
+use Rattle.spec_text.specs.declared.limits.TheConstants.{MAX_TEXT_BYTES}
 use Rattle.spec_text.specs.declared.decimals.Fault.{Fault}
 use Rattle.spec_ephemeris.specs.Ephemeris.{Ephemeris}
 use Rattle.spec_files.specs.HeaderLines.{header}
 use Rattle.spec_files.specs.Sections.{FileLine, Stop, ended, breaks, ◌>>=◌}
 use Rattle.spec_files.specs.Blocks.{blocks}
+use Rattle.spec_files.specs.FileLines.{first_long, readable}
 use Rattle.spec_files.specs.Texts.{cut_off, fault_at, file_lines}
 use Rattle.de_header.specs.declared.state.State.{State}
 use Rattle.de_header.specs.Reader as headers
 use Rattle.de_blocks.specs.Reader as block_lines
+use Rattle.de_text.specs.Cursor.{counted_after}
 use Rattle.spec_files.specs.declared.errors.ReadError.{ReadError}
 use Rattle.spec_files.specs.declared.errors.ReadError.TheVariants as errors
 use Rattle.gf_files.specs.declared.reader.Reader.{Reader}
@@ -82,11 +85,34 @@ IsFirstFaultIn file reader text fault =
 abbrev pub IsFirstFault : Reader → List ℕ → Fault → Type 0
 IsFirstFault reader text fault = (file : ℕ) → IsFirstFaultIn file reader text fault
 
--- what comes of a text: a reader that took it, or its first fault
-abbrev pub Feeds : Reader → List ℕ → Result Fed ReadError → Type 0
-Feeds reader text (Ok fed) = IsFed reader text fed
-Feeds reader text (Err (errors.Fault fault)) = IsFirstFault reader text fault
-Feeds reader text (Err errors.Memory) = Unit {0}
+-- these lines of a file were taken, the last of which has this number less 1
+pub record TookLines (reader : Reader) (lines : List Numbered) (end : ℕ) (fed : Fed) : Type 0 where
+  pub same : (file : ℕ) (rest : List FileLine) → ephemeris_after file fed.reader rest ≡ ephemeris_after file reader (readable file lines ++ rest)
+  pub ready : IsReady fed.reader
+  pub whole : first_long lines ≡ None
+  pub end_line : fed.end_line ≡ end
+
+-- one of these lines breaks a rule whatever lines follow; or none does, and one is too long
+abbrev pub IsFirstFaultOf : ℕ → Reader → List Numbered → Fault → Type 0
+IsFirstFaultOf file reader lines fault =
+    ((rest : List FileLine) → ephemeris_after file reader (readable file lines ++ rest) ≡ Err (breaks file fault))
+    ⊎ ((first_long lines ≡ Some fault) × HasNoFault (ephemeris_after file reader (readable file lines)))
+
+-- what comes of lines of a file, which end at this number: a reader that took them, or their first fault
+abbrev pub FeedsLines : Reader → List Numbered → ℕ → Result Fed ReadError → Type 0
+FeedsLines reader lines end (Ok fed) = TookLines reader lines end fed
+FeedsLines reader lines end (Err (errors.Fault fault)) = (file : ℕ) → IsFirstFaultOf file reader lines fault
+FeedsLines reader lines end (Err errors.Memory) = Unit {0}
+
+-- a piece of so many bytes can follow
+abbrev pub CanGoOn : Result Fed ReadError → ℕ → Type 0
+CanGoOn (Ok fed) size = IsReady fed.reader × (1 ≤ fed.end_line) × ((fed.end_line - 1) + size ≤ MAX_TEXT_BYTES)
+CanGoOn (Err error) size = Unit {0}
+
+-- what comes of the lines of one more piece of a text; an error stays
+abbrev pub FeedsPiece : Result Fed ReadError → List ℕ → Result Fed ReadError → Type 0
+FeedsPiece (Ok fed) piece result = FeedsLines fed.reader (counted_after (fed.end_line - 1) piece) ((fed.end_line - 1) + length (lines piece) + 1) result
+FeedsPiece (Err error) piece result = result ≡ Err error
 
 -- what comes of the end of all lines, where those of the last file end at this number: the ephemeris, or the first fault
 abbrev pub Finishes : ℕ → Result Ephemeris Stop → Result Ephemeris ReadError → Type 0

@@ -18,7 +18,7 @@ use std::alloc::Global;
 // The most bytes that one read asks for.
 const PIECE: usize = 65_536;
 
-const TOO_LARGE: Fault = Fault {
+pub(crate) const TOO_LARGE: Fault = Fault {
     line: 0,
     number: FILE_TOO_LARGE,
     detail: 0,
@@ -43,20 +43,23 @@ fn read_at<S: Shelf>(shelf: &mut S, bytes: &mut [u8], at: usize) -> Result<usize
     shelf.read(&mut bytes[at..])
 }
 
-// Reads the next bytes of the open file to the end of the text, and returns how many: at most 65,536, and 0 only if
-// the file ends there. Errors: `NotRead` with the number of the file, counted from 0, if the shelf fails; or out of
-// memory.
+// Reads the next bytes of the open file to the end of the text, and returns how many: at most 65,536, at most `most`,
+// and 0 only if the file ends there. Errors: `NotRead` with the number of the file, counted from 0, if the shelf
+// fails; or out of memory.
 #[tactic(auto, using(crate::proofs::Left::kept))]
-fn append_next_bytes<S: Shelf>(
+pub(crate) fn append_next_bytes<S: Shelf>(
     shelf: &mut S,
     file: usize,
     text: &mut Vec<u8>,
+    most: usize,
 ) -> Result<usize, FilesError>
     requires ready { S.ready shelf.old }
-    requires small { length text.old.items ≤ MAX_TEXT_BYTES }
+    requires some { 0 < most }
+    requires small { length text.old.items + most ≤ MAX_TEXT_BYTES + 1 }
     ensures ready { S.ready shelf.new }
     ensures read { IfOk result (λ count. Grows (S.left shelf.old) (S.left shelf.new)
         text.old.items text.new.items count) }
+    ensures few { IfOk result (λ count. count ≤ most) }
     ensures small { IfOk result (λ count. length text.new.items ≤ MAX_TEXT_BYTES + 1) }
     ensures end { IfOk result (λ count. count ≡ 0 → IsAtEnd (S.left shelf.new)) }
     ensures unread { OnErr result (Keeps (S.left shelf.old) (S.left shelf.new)) }
@@ -68,7 +71,7 @@ fn append_next_bytes<S: Shelf>(
     ensures later { S.faults shelf.old ≤ S.faults shelf.new }
 {
     let start = text.len();
-    let room = (MAX_TEXT_BYTES + 1 - start).min(PIECE);
+    let room = most.min(PIECE);
     text.resize(start + room, 0)?;
     match read_at(shelf, text.as_mut_slice(), start) {
         Ok(count) => {
@@ -99,7 +102,8 @@ fn read_rest<S: Shelf>(alloc: Global, shelf: &mut S, file: usize) -> Result<Vec<
 {
     let mut text: Vec<u8> = Vec::new(alloc);
     while text.len() <= MAX_TEXT_BYTES {
-        let count = append_next_bytes(shelf, file, &mut text)?;
+        let most = MAX_TEXT_BYTES + 1 - text.len();
+        let count = append_next_bytes(shelf, file, &mut text, most)?;
         if count == 0 {
             return Ok(text);
         }

@@ -9,10 +9,10 @@ ghost use Rattle.gf_files.specs.Read.{HaveRead, LacksFirst, StopsAtFile, TakesFi
 ghost use Rattle.gf_files.specs.Reader.{IsReady};
 
 use crate::errors::{FilesError, error_in_file};
-use crate::file::read_file;
-use crate::reader::{Fed, Reader, end_reading, feed_text, first_reader};
+use crate::pieces::feed_rest;
+use crate::reader::{Fed, Reader, end_reading, first_reader};
 use eph_model::Ephemeris;
-use gf_edges::Shelf;
+use gf_edges::{Failed, Shelf};
 use spec_faults::TOO_MANY_FILES;
 use spec_files::MAX_FILES;
 use spec_text::Fault;
@@ -27,13 +27,15 @@ pub struct Accepted {
 }
 
 // Reads the file of this number and name, and gives its lines to the reader. Returns the reader after them, with the
-// number of the file's lines plus 1. Errors: the first fault of its lines, `NotRead`, or out of memory.
+// number of the file's lines plus 1. Errors: the first fault of its lines, `NotRead`, or out of memory. The window is
+// room for a piece of the file.
 fn feed_file<S: Shelf>(
     alloc: Global,
     shelf: &mut S,
     reader: Reader,
     file: usize,
     name: &str,
+    window: &mut Vec<u8>,
 ) -> Result<Fed, FilesError>
     requires { IsReady reader }
     ensures fed { IfOk result (TakesFile (S.files shelf.old) name.now reader) }
@@ -47,10 +49,9 @@ fn feed_file<S: Shelf>(
     ensures files { S.files shelf.new ≡ S.files shelf.old }
     ensures later { S.faults shelf.old ≤ S.faults shelf.new }
 {
-    let text = read_file(alloc, shelf, file, name)?;
-    match feed_text(alloc, reader, &text) {
-        Ok(fed) => Ok(fed),
-        Err(error) => Err(error_in_file(file, error)),
+    match shelf.open(name) {
+        Ok(()) => feed_rest(alloc, shelf, reader, file, window),
+        Err(Failed) => Err(FilesError::NotRead { file }),
     }
 }
 
@@ -72,10 +73,11 @@ fn feed_files<S: Shelf>(alloc: Global, shelf: &mut S, names: &[String]) -> Resul
     ensures files { S.files shelf.new ≡ S.files shelf.old }
     ensures later { S.faults shelf.old ≤ S.faults shelf.new }
 {
+    let mut window = Vec::new(alloc);
     let mut reader = first_reader();
     let mut end_line = 1;
     for file in 0..names.len() {
-        let fed = feed_file(alloc, shelf, reader, file, &names[file])?;
+        let fed = feed_file(alloc, shelf, reader, file, &names[file], &mut window)?;
         reader = fed.reader;
         end_line = fed.end_line;
     }

@@ -6,6 +6,7 @@
 mod errors;
 mod file;
 mod files;
+mod pieces;
 mod reader;
 
 pub use errors::FilesError;

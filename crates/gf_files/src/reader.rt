@@ -1,11 +1,13 @@
 // The lines of several files, one file after the other: to the header's reader, and then to that of the blocks.
-ghost use Rattle.std.specs.Prelude.{◌≡◌, ◌≤◌, [], List, ℕ, length};
+ghost use Rattle.std.specs.Prelude.{◌≡◌, ◌+◌, ◌≤◌, [], List, ℕ, length};
+ghost use Rattle.spec_text.specs.Lines.{lines};
 ghost use Rattle.spec_text.specs.declared.limits.TheConstants.{MAX_TEXT_BYTES};
 ghost use Rattle.spec_files.specs.Sections.{FileLine};
 ghost use Rattle.spec_files.specs.Lines.{ephemeris};
+ghost use Rattle.de_text.specs.Cursor.{counted_after};
 ghost use Rattle.de_header.specs.Reader as headers;
 ghost use Rattle.gf_files.specs.declared.reader.Reader.TheVariants as readers;
-ghost use Rattle.gf_files.specs.Reader.{Feeds, Finishes, IsOfHeader, IsReady, Moves, TookLine, WantsMore, ephemeris_after, moved};
+ghost use Rattle.gf_files.specs.Reader.{CanGoOn, FeedsLines, FeedsPiece, Finishes, IsOfHeader, IsReady, Moves, TookLine, WantsMore, ephemeris_after, moved};
 
 use de_blocks::BlockReader;
 use de_header::{HeaderReader, Step};
@@ -24,11 +26,11 @@ pub(crate) enum Reader {
     Blocks(BlockReader),
 }
 
-/// A reader that took a whole text.
+/// A reader that took a text, or its first pieces.
 #[derive(Drop)]
 pub(crate) struct Fed {
     pub reader: Reader,
-    /// The number of the text's lines plus 1.
+    /// The number of the lines that were taken plus 1.
     pub end_line: u32,
 }
 
@@ -112,14 +114,20 @@ fn take_line(alloc: Global, reader: &mut Reader, line: &Line<'_>) -> Result<(), 
     }
 }
 
-/// Gives all lines of a text to the reader. Returns the reader after them, with the number of the text's lines plus
-/// 1. Errors: the first fault of the text, or out of memory.
-pub(crate) fn feed_text(alloc: Global, mut reader: Reader, text: &[u8]) -> Result<Fed, ReadError>
-    requires small { length text.now ≤ MAX_TEXT_BYTES }
+// Gives all lines of a piece of a text to the reader, where pieces with `before` lines came before it. Returns the reader
+// after them, with the number of the lines up to there plus 1. Errors: the first fault of the lines, or out of memory.
+fn feed_lines(
+    alloc: Global,
+    mut reader: Reader,
+    before: u32,
+    piece: &[u8],
+) -> Result<Fed, ReadError>
+    requires small { before + length piece.now ≤ MAX_TEXT_BYTES }
     requires ready { IsReady reader }
-    ensures { Feeds reader text.now result }
+    ensures { FeedsLines reader (counted_after before piece.now)
+        (before + length (lines piece.now) + 1) result }
 {
-    let mut lines = Tokens::new(text);
+    let mut lines = Tokens::after(before, piece);
     loop {
         match lines.triple_line() {
             Some(line) => take_line(alloc, &mut reader, &line)?,
@@ -138,6 +146,23 @@ pub(crate) fn feed_text(alloc: Global, mut reader: Reader, text: &[u8]) -> Resul
                 }
             },
         }
+    }
+}
+
+/// Gives all lines of the next piece of a text to the reader that took those of the pieces before it. Returns that
+/// reader, with the number of the lines up to there plus 1. Errors: that of the pieces before; else the first fault of
+/// the lines, or out of memory.
+pub(crate) fn feed_piece(
+    alloc: Global,
+    fed: Result<Fed, ReadError>,
+    piece: &[u8],
+) -> Result<Fed, ReadError>
+    requires { CanGoOn fed (length piece.now) }
+    ensures { FeedsPiece fed piece.now result }
+{
+    match fed {
+        Ok(fed) => feed_lines(alloc, fed.reader, fed.end_line - 1, piece),
+        Err(error) => Err(error),
     }
 }
 

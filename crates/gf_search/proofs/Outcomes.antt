@@ -101,7 +101,7 @@ module _ (most : ℕ) (q : Query) (e : Ephemeris) (span : Span) (within : is_wit
   wanted_found checked block query Windows ls have = windows_found checked block query ls have
   wanted_found checked block query Signs ls have = signs_found ls have
 
-  pub leaves_stopped : (r : Result (Vec Leaf Global) Refusal) → IfErr r (StopsAt most (leaf_count (rules s) n)) → IfErr r (λ stop. Stops most q e span stop)
+  pub leaves_stopped : {X : Type 0} (r : Result X Refusal) → IfErr r (StopsAt most (leaf_count (rules s) n)) → IfErr r (λ stop. Stops most q e span stop)
   leaves_stopped (Ok found) stops = tt
   leaves_stopped (Err r) stops =
       leaves_stop most q e span r (found_is most q e span within sound)

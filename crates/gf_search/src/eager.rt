@@ -1,10 +1,11 @@
 // Leaves that have the windows of a search: the leaves of its eager tree, settled, or the leaves of its tree.
 ghost use Rattle.std.specs.Prelude.{◌≡◌, ◌≤◌, All, IfErr, IfOk, map};
-ghost use Rattle.spec_trees.specs.Tree.{HasTime, leaf_count, leaves};
+ghost use Rattle.spec_trees.specs.Tree.{HasTime, IsValid, leaf_count, leaves};
 ghost use Rattle.spec_searches.specs.Found.{rules};
 ghost use Rattle.spec_stills.specs.Still.{IsStill};
 ghost use Rattle.spec_stills.specs.Eager.{eager_rules};
 ghost use Rattle.spec_stills.specs.Settled.{settled};
+ghost use Rattle.still_spans.specs.Manners.{rules_in};
 ghost use Rattle.gf_search.specs.Wanted.{HaveWindows, StopsAt};
 
 use crate::coarse::coarse_leaves;
@@ -20,7 +21,7 @@ use spec_stills::weight_laws::{leaves_weigh_enough, the_tree_has_no_more_leaves_
 use spec_trees::{Leaf, Node, leaves_cover_the_node};
 use std::sync::Wait;
 use std::thread::Threads;
-use still_spans::{EagerJudge, StillList, still_spans_by};
+use still_spans::{Manner, StillJudge, StillList, still_spans_by};
 
 /// Finds still spans of a search over the times of a node, by the workers of a crew, and returns them in order of
 /// time. The only error is `Memory`.
@@ -50,9 +51,12 @@ pub(crate) fn still_spans_over_node<R: Threads + Sync, G>(
 // which says nothing of the search.
 fn eager_leaves<R: Threads + Wait + Sync, J: Judge, G: Gate>(
     walk: &Walk<R, J, G>,
+    eager: &StillJudge<'_, '_, J>,
     stills: &StillList,
 ) -> Result<Vec<Leaf>, Refusal>
     requires still { All (IsStill walk.now.search.now) stills.now }
+    requires rules { rules_in eager.now.manner eager.now.search.now eager.now.stills.now
+        ≡ eager_rules walk.now.search.now stills.now }
     ensures leaves { IfOk result (λ found. found.items
         ≡ leaves (eager_rules walk.now.search.now stills.now) walk.now.root) }
     ensures few { IfOk result (λ found.
@@ -63,24 +67,22 @@ fn eager_leaves<R: Threads + Wait + Sync, J: Judge, G: Gate>(
     leaves_cover_the_node();
     leaves_weigh_enough();
     the_tree_has_no_more_leaves_than_lie_below();
-    let eager = EagerJudge::new(walk.judge, walk.search, stills);
-    coarse_leaves(walk, &eager, stills)
+    coarse_leaves(walk, eager, stills)
 }
 
-// Returns leaves of the eager tree of a search that is walked, settled by still spans and the walk's judge: an undecided
-// leaf becomes clear if it lies in a clear leaf of the search's tree.
-fn settled_leaves<R, J: Judge, G>(
-    walk: &Walk<R, J, G>,
-    stills: &StillList,
+// Returns leaves of the eager tree of a search at a root, settled by a judge of the search: an undecided leaf becomes
+// clear if it lies in a clear leaf of the search's tree.
+fn settled_leaves<J: Judge>(
+    judge: &StillJudge<'_, '_, J>,
+    root: Node,
     found: Vec<Leaf>,
 ) -> Vec<Leaf>
-    requires still { All (IsStill walk.now.search.now) stills.now }
+    requires valid { IsValid (rules judge.now.search.now) root }
     requires time { All HasTime found.items }
-    ensures { result.items ≡ map (settled walk.now.search.now walk.now.root) found.items }
+    ensures { result.items ≡ map (settled judge.now.search.now root) found.items }
 {
     let mut leaves = found;
-    let eager = EagerJudge::new(walk.judge, walk.search, stills);
-    eager.settle(walk.root, &mut leaves);
+    judge.settle(root, &mut leaves);
     leaves
 }
 
@@ -102,8 +104,9 @@ pub(crate) fn leaves_with_windows<R: Threads + Wait + Sync, J: Judge, G: Gate>(
     eager_trees_are_sound();
     settled_leaves_have_the_same_windows();
     leaves_cover_the_node();
-    match eager_leaves(walk, stills) {
-        Ok(found) => Ok(settled_leaves(walk, stills, found)),
+    let eager = StillJudge::new(walk.judge, walk.search, stills, Manner::Eager);
+    match eager_leaves(walk, &eager, stills) {
+        Ok(found) => Ok(settled_leaves(&eager, walk.root, found)),
         Err(Refusal::Memory) => Err(Refusal::Memory),
         Err(_) => tree_leaves(walk),
     }

@@ -1,52 +1,62 @@
 // The times at which the function of a query is at least 0, which is to say at least the reference.
-ghost use Rattle.std.specs.Prelude.{◌≡◌, ◌<◌, ℤ, ◌≤ℤ◌, IfErr, IfOk, None, true};
+ghost use Rattle.std.specs.Prelude.{◌≡◌, ◌<◌, ℤ, ◌≤ℤ◌, All, IfErr, IfOk, None, true};
 ghost use Rattle.spec_kinds.specs.Faults.{fault_of};
 ghost use Rattle.spec_kinds.specs.Kinds.{event_of};
 ghost use Rattle.spec_trees.specs.Tree.{Covers};
 ghost use Rattle.spec_sets.specs.Pairs.{AreOf};
+ghost use Rattle.spec_stills.specs.Still.{IsStill};
 ghost use Rattle.spec_outcomes.specs.Queries.{is_within, search};
 ghost use Rattle.spec_outcomes.specs.Sets.{IsSetQuery, signs_by, signs_in};
 ghost use Rattle.gf_search.specs.Reached.{AreReached, HasTooMany};
 
+use crate::found::Found;
+use crate::search::leaves_and_stills;
 use crate::span_task::SpanTask;
-use crate::{Crew, Wanted, leaves};
+use crate::still_signs::StillSigns;
+use crate::{Crew, Wanted};
 use eph_model::Ephemeris;
 use event_kinds::Event;
 use gf_edges::Gate;
 use gf_query::states;
-use gf_sets::{Pair, at_least};
+use gf_sets::{Pair, times_at_least};
 use spec_outcomes::{Query, Refusal, Span};
 use spec_output::MAX_LEAVES;
-use spec_trees::Leaf;
 use std::alloc::{AllocError, Global};
 use std::sync::Wait;
 use std::thread::Threads;
 
 // Returns the times of a span at which the function of a query is at least 0, from leaves that show the signs of the
-// search for the query's event. The header is read for what the call ensures. The only error is out of memory.
+// search for the query's event, and the search's still spans. The header is read for what the call ensures. The only
+// error is out of memory.
 fn times_reached_by_leaves(
     alloc: Global,
     ephemeris: &Ephemeris,
     query: &Query,
     event: &Event,
     span: Span,
-    leaves: &[Leaf],
+    found: &Found,
 ) -> Result<Pair, AllocError>
     requires block { 0 < ephemeris.now.blocks }
     requires query { IsSetQuery query.now }
     requires within { is_within span ephemeris.now ≡ true }
     requires sound { fault_of ephemeris.now query.now.ask ≡ None }
     requires event { event.now ≡ event_of query.now.ask }
-    requires follow { Covers span.from leaves.now span.upto }
+    requires follow { Covers span.from found.now.leaves.items span.upto }
+    requires still { All (IsStill (search query.now ephemeris.now)) found.now.stills }
     requires signs { (t : ℤ) → t ≤ℤ span.upto
-        → signs_by (search query.now ephemeris.now) span leaves.now t
+        → signs_by (search query.now ephemeris.now) span found.now.leaves.items t
         ≡ signs_in (search query.now ephemeris.now) span t }
     ensures { IfOk result (λ pair. AreOf (signs_in (search query.now ephemeris.now) span)
         span.from span.upto pair.sure pair.maybe) }
 {
     let _header = ephemeris.header();
     let states = states(ephemeris, query);
-    at_least(alloc, event.function(), &states, span.from, leaves)
+    let signs = StillSigns {
+        formula: event.function(),
+        states: &states,
+        stills: &found.stills,
+    };
+    times_at_least(alloc, &signs, span.from, &found.leaves)
 }
 
 /// Searches a task's span for the query's event, which has no fault, and returns the times at which the query's
@@ -72,7 +82,7 @@ pub(crate) fn reached_times<R: Threads + Wait + Sync, G: Gate>(
         max_leaves: MAX_LEAVES,
         gate: task.gate,
     };
-    let found = leaves(&crew, Wanted::Signs, task.ephemeris, query, task.span)?;
+    let found = leaves_and_stills(&crew, Wanted::Signs, task.ephemeris, query, task.span)?;
     let pair = times_reached_by_leaves(
         task.alloc,
         task.ephemeris,

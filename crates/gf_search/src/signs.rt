@@ -17,7 +17,7 @@ use spec_stills::weight_laws::{leaves_weigh_enough, the_tree_has_no_more_leaves_
 use spec_trees::{Leaf, leaves_cover_the_node};
 use std::sync::Wait;
 use std::thread::Threads;
-use still_spans::{ServedJudge, StillList};
+use still_spans::{Manner, StillJudge, StillList};
 
 // Returns the leaves of the served tree of a search that is walked, by still spans, in order of time, if the tree of
 // the search is known to have no more leaves than the crew may find. Else it returns an error: `Memory`, or another,
@@ -37,7 +37,7 @@ fn served_leaves<R: Threads + Wait + Sync, J: Judge, G: Gate>(
     leaves_cover_the_node();
     leaves_weigh_enough();
     the_tree_has_no_more_leaves_than_lie_below();
-    let served = ServedJudge::new(walk.judge, walk.search, stills);
+    let served = StillJudge::new(walk.judge, walk.search, stills, Manner::Served);
     coarse_leaves(walk, &served, stills)
 }
 

@@ -9,7 +9,9 @@ ghost use Rattle.spec_sets.specs.Signs.{AreTold, Follow, end_from, sign_after, s
 ghost use Rattle.spec_sets.specs.Spans.{earliest, latest};
 ghost use Rattle.gf_sets.specs.Adding.{AreAdded, ComesNext};
 
+use crate::formula_signs::FormulaSigns;
 use crate::pair::Pair;
+use crate::sign_source::SignSource;
 use crate::spans::Spans;
 use event_expr::{Formula, States};
 use ival_core::Sign;
@@ -41,34 +43,48 @@ pub fn at_least<S: States>(
         → AreSets (IsNotNegative (exact_of (S.exact states.now) f.now))
         from (end_from from leaves.now) pair.sure pair.maybe) }
 {
+    let signs = FormulaSigns { formula: f, states };
+    times_at_least(alloc, &signs, from, leaves)
+}
+
+/// Returns the times as `at_least` does, by what tells the function's sign at `from` and at the end of each clear leaf.
+/// The only error is out of memory.
+pub fn times_at_least<P: SignSource>(
+    alloc: Global,
+    signs: &P,
+    from: i64,
+    leaves: &[Leaf],
+) -> Result<Pair, AllocError>
+    requires follow { Follow from leaves.now }
+    requires early { earliest ≤ℤ from }
+    requires late { end_from from leaves.now ≤ℤ latest }
+    requires fits { (t : ℤ) → from ≤ℤ t → t ≤ℤ end_from from leaves.now → P.fits signs.now t }
+    ensures { IfOk result (λ pair. AreOf (sign_of_leaves (P.sign signs.now) from leaves.now)
+        from (end_from from leaves.now) pair.sure pair.maybe) }
+{
     let mut pair = Pair {
         sure: Spans::new(alloc),
         maybe: Spans::new(alloc),
     };
-    pair.add_with_sign(from, from, sign_at(f, states, from))?;
+    pair.add_with_sign(from, from, signs.sign_at(from))?;
     for leaf in leaves {
-        add_leaf(&mut pair, f, states, leaf)?;
+        add_leaf(&mut pair, signs, leaf)?;
     }
     Ok(pair)
 }
 
 // Adds the times of a leaf after its first to a pair of sets, which end there: a clear leaf's with the sign of its
 // end, an undecided one's as open, and those of a leaf with a turn by that turn. The only error is out of memory.
-fn add_leaf<S: States>(
-    pair: &mut Pair,
-    f: &Formula,
-    states: &S,
-    leaf: &Leaf,
-) -> Result<(), AllocError>
+fn add_leaf<P: SignSource>(pair: &mut Pair, signs: &P, leaf: &Leaf) -> Result<(), AllocError>
     requires next { ComesNext leaf.now.node pair.old.sure pair.old.maybe }
-    requires fits { S.fits states.now leaf.now.node.b leaf.now.node.b }
+    requires fits { P.fits signs.now leaf.now.node.b }
     ensures { OnOk result (AreAdded
-        (sign_in (point_of (S.answer states.now) f.now) leaf.now.node leaf.now.mark)
+        (sign_in (P.sign signs.now) leaf.now.node leaf.now.mark)
         (leaf.now.node.a +ℤ pos 1) leaf.now.node.b
         pair.old.sure pair.old.maybe pair.new.sure pair.new.maybe) }
 {
     match leaf.mark {
-        Mark::Clear => add_node(pair, &leaf.node, sign_at_end(f, states, &leaf.node)),
+        Mark::Clear => add_node(pair, &leaf.node, sign_at_end(signs, &leaf.node)),
         Mark::Undecided => add_node(pair, &leaf.node, Sign::Open),
         Mark::One(turn) => add_node_with_turn(pair, &leaf.node, turn),
     }
@@ -97,19 +113,11 @@ fn add_node_with_turn(pair: &mut Pair, node: &Node, turn: Turn) -> Result<(), Al
 }
 
 // Returns the sign of a function at the last time of a node, at which the whole of a clear node has it.
-fn sign_at_end<S: States>(f: &Formula, states: &S, node: &Node) -> Sign
-    requires { S.fits states.now node.now.b node.now.b }
-    ensures { result ≡ point_of (S.answer states.now) f.now node.now.b }
+fn sign_at_end<P: SignSource>(signs: &P, node: &Node) -> Sign
+    requires { P.fits signs.now node.now.b }
+    ensures { result ≡ P.sign signs.now node.now.b }
 {
-    sign_at(f, states, node.b)
-}
-
-// Returns the sign of a function at a time, or `Open` if its enclosure holds numbers on both sides of 0.
-fn sign_at<S: States>(f: &Formula, states: &S, t: i64) -> Sign
-    requires { S.fits states.now t t }
-    ensures { result ≡ point_of (S.answer states.now) f.now t }
-{
-    states.enclosure(f, t, t).range.sign()
+    signs.sign_at(node.b)
 }
 
 // Returns the sign of a function after a turn: `Yes` after a rise, since the function is then at least 0, and `No`

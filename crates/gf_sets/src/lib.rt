@@ -6,10 +6,13 @@
 #![tactic(auto)]
 
 mod algebra;
+mod formula_signs;
 mod from_leaves;
 mod pair;
+mod sign_source;
 mod spans;
 
-pub use from_leaves::at_least;
+pub use from_leaves::{at_least, times_at_least};
 pub use pair::Pair;
+pub use sign_source::SignSource;
 pub use spans::Spans;

@@ -13,17 +13,12 @@ use Rattle.pool_core.specs.States.{Holding, holding, nothing, State, Runs, openi
 use Rattle.pool_core.specs.Tiling.{Conserves, IsDone, todo}
 use Rattle.pool_core.specs.Interleaved.{Event, first_account, taken_from, entered_in, step_of, IsNamed, Interleaves, IsAtRest, Shows, ShowsWorker}
 use Rattle.pool_core.proofs.Interleaving.{Stands, Stage, get_one, runs}
-use Rattle.pool_core.proofs.Beginning.{opening_conserves}
+use Rattle.pool_core.proofs.Beginning.{idle, opening_conserves}
 use Rattle.pool_core.proofs.Keeping.{run_conserves}
 use Rattle.pool_core.proofs.Falling.{left_for, run_falls, todo_is}
 use Rattle.pool_core.proofs.Ending.{done_in_order, done_is_zero}
 
 -- ---- the opening state
-idle : (m w : ℕ) (x : Holding) → slice_get (replicate m nothing) w ≡ Some x → x ≡ nothing
-idle zero w x at = absurd cc
-idle (suc m) zero x at = cc
-idle (suc m) (suc w) x at = idle m w x at
-
 module _ (t : Rules) (root : Node) (events : List Event) (accounts : List Account) (p : Interleaves t root events accounts) where
   first : (w : ℕ) (x : Holding) → x.hand ≡ (first_account root w).hand → x.kept ≡ [] → x.deque ≡ [] → w < length accounts → Stands t accounts w [] events x
   first w x hand kept deque below =

@@ -12,6 +12,7 @@ use Rattle.pool_core.specs.declared.step.Step.TheVariants as S
 use Rattle.pool_core.specs.States.{Holding, holding, nothing, State, Steals, Steps, Runs, opening}
 use Rattle.spec_pool.specs.Acts.{Act, Put, Keep, Take, TakeTop, Enter, Does, History, puts, takes_from, enters}
 use Rattle.pool_core.specs.Interleaved.{Event, event, first_account, act_of, acts_of, put_on, taken_from, entered_in, KeepsRule, TakesBelow, IsNamed, Interleaves, step_of, ShowsWorker, Shows}
+use Rattle.pool_core.proofs.Beginning.{idle}
 use Rattle.pool_core.proofs.Interleaving.{same_test, other_test, get_one, after_set, get_other, set_length, one_more, act_here, act_other, put_here, put_other, moves, taken_here, taken_other}
 
 -- ---- one event more
@@ -257,11 +258,6 @@ same_first root zero w a at = absurd cc
 same_first root (suc m) zero a at = cc
 same_first root (suc m) (suc w) a at = same_first root m w a at
 
-same_idle : (m w : ℕ) (x : Holding) → slice_get (replicate m nothing) w ≡ Some x → x ≡ nothing
-same_idle zero w x at = absurd cc
-same_idle (suc m) zero x at = cc
-same_idle (suc m) (suc w) x at = same_idle m w x at
-
 module _ (t : Rules) (root : Node) (n : ℕ) (some : 1 ≤ n) where
   first_histories : (w : ℕ) (a : Account) → slice_get (firsts root n) w ≡ Some a → History t (first_account root w) (acts_of w []) a
   first_histories zero a at = cc
@@ -282,7 +278,7 @@ module _ (t : Rules) (root : Node) (n : ℕ) (some : 1 ≤ n) where
       }
   first_shows (suc w) a x at here =
       let is : a ≡ first_account root 1 = same_first root (n - 1) w a at in
-      let so : x ≡ nothing = same_idle (n - 1) w x here in
+      let so : x ≡ nothing = idle (n - 1) w x here in
       record {
         hand = ap (λ (h : Holding). h.hand) so ∙ sym (ap (λ (b : Account). b.hand) is);
         kept = ap (λ (h : Holding). h.kept) so ∙ sym (ap (λ (b : Account). b.kept) is);

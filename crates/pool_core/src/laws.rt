@@ -98,7 +98,7 @@ pub fn every_interleaving_keeps_the_laws()
 /// one that leads the workers to the same accounts. So it does not matter that nobody knows in which order such acts
 /// were done.
 pub fn acts_on_different_deques_may_change_places()
-    ensures { (t : Rules) (root : Node) (front : List Event) (d : Event) (e : Event) (back : List Event) (accounts : List Account)
-        → AreApart d e → Interleaves t root (front ++ d ∷ e ∷ back) accounts
+    ensures { (t : Rules) (root : Node) (front : List Event) (d e : Event) (back : List Event)
+        (accounts : List Account) → AreApart d e → Interleaves t root (front ++ d ∷ e ∷ back) accounts
         → Interleaves t root (front ++ e ∷ d ∷ back) accounts }
 {}

@@ -14,8 +14,8 @@ ghost use Rattle.pool_runs.specs.Seated.{AreInterleaved, ShowsSeat};
 /// out, are a run of the model. The state that it leads to has in each hand and on each local stack what the seat has, and
 /// on each deque what the seat put there less what was taken.
 pub fn seats_take_steps_of_the_model()
-    ensures { (t : Rules) (ledger : SpanLedger) (root : Node) (ss : List Seat) (qs : List Seat) (events : List Event)
-        → 1 ≤ length ss → AllBegin ledger root ss → AreInterleaved t ss qs events
+    ensures { (t : Rules) (ledger : SpanLedger) (root : Node) (ss qs : List Seat)
+        (events : List Event) → 1 ≤ length ss → AllBegin ledger root ss → AreInterleaved t ss qs events
         → (s : State) × Runs t (opening root (length qs)) (map step_of events) s × (s.entered ≡ entered_in events)
         × ((k : ℕ) (q : Seat) (x : Holding) → slice_get qs k ≡ Some q → slice_get s.workers k ≡ Some x
         → ShowsSeat k events q x) }
@@ -24,8 +24,8 @@ pub fn seats_take_steps_of_the_model()
 /// States the same of whole runs, as `run` of `steal_pool` says what its seats did: in whatever one order of all their acts
 /// each deque is first in, first out, the acts of its workers are a run of the model from the opening state on.
 pub fn runs_take_steps_of_the_model()
-    ensures { (t : Rules) (root : Node) (workers limit : ℕ) (h : RunHistory t root workers limit) (events : List Event)
-        → 1 ≤ workers → AreInterleaved t h.come.0 h.worked events
+    ensures { (t : Rules) (root : Node) (workers limit : ℕ) (h : RunHistory t root workers limit)
+        (events : List Event) → 1 ≤ workers → AreInterleaved t h.come.0 h.worked events
         → (s : State) × Runs t (opening root (length h.worked)) (map step_of events) s × (s.entered ≡ entered_in events)
         × ((k : ℕ) (q : Seat) (x : Holding) → slice_get h.worked k ≡ Some q → slice_get s.workers k ≡ Some x
         → ShowsSeat k events q x) }

@@ -5,7 +5,7 @@
 //! each deque is first in, first out in that order, then the list is a run of the model of `pool_core`, step for step.
 //!
 //! - That there is such an order is read, and not proved: each step of a deque is at one instant, so all of them lie on one
-//!   line of time. `docs/DECISIONS.md` says why no clause has it.
+//!   line of time. `docs/develop/decisions.md` says why no clause has it.
 //! - No command stands on this crate.
 #![tactic(auto)]
 

@@ -18,7 +18,7 @@ use Rattle.steal_pool.specs.declared.seat.Stop.TheVariants.{Full, Memory}
 use Rattle.steal_pool.specs.Rule.{DequeId, End}
 use Rattle.steal_pool.specs.Rounds.{Counts, tally}
 use Rattle.steal_pool.specs.Seats.{IsFullOf, IsLeft, Seat, SeatLinks, account, entered_by, place_of, ways}
-use Rattle.steal_pool.specs.Pools.{AccountFor, AreCounted, AreLinked, ComeBack, HasRoom, IsLeftOver, IsRefused, KeepNone, LeavesOver, NoneIsOutOfMemory, SomeIsOutOfMemory, entered_in, entered_of, put_of, own_of, stealers_on, right_of, seat_right, taken_of, ways_of_all}
+use Rattle.steal_pool.specs.Pools.{AccountFor, AreCounted, AreLinked, ComeBack, HasRoom, IsLeftOver, IsRefused, KeepNone, LeavesOver, NoneIsOutOfMemory, entered_in, entered_of, put_of, own_of, stealers_on, right_of, seat_right, taken_of, ways_of_all}
 use Rattle.steal_pool.specs.Stealers.{HasNoStealer, Joined, lasting}
 use Rattle.steal_pool.specs.Closing.{Drains, Ended, HasUsedUp, Leaves, SomeIsFull, worst_stop}
 use Rattle.steal_pool.proofs.Rule.{left_permuted}
@@ -27,7 +27,7 @@ use Rattle.steal_pool.specs.Runs.{IsLater}
 use Rattle.steal_pool.proofs.Pooling.{later_same, same_linked, same_room}
 use Rattle.steal_pool.proofs.Together.{account_later, account_weighs, entered_of_weigh, entered_sum, own_of_weigh, own_sum, put_sum, taken_of_weigh, taken_sum, weighs_account}
 use Rattle.steal_pool.proofs.Counting.{later_counted, same_count}
-use Rattle.steal_pool.proofs.Stopping.{full_stopped, memory_stopped}
+use Rattle.steal_pool.proofs.Stopping.{full_stopped}
 use Rattle.steal_pool.proofs.Listing.{all_get, zip_all, zip_at, zip_map, map_all, map_at, map_length, map_from, weigh_none}
 
 map_twice : {A B C : Type 0} (f : A → B) (g : B → C) (xs : List A) → map (λ x. g (f x)) xs ≡ map g (map f xs)
@@ -300,6 +300,3 @@ leaves_over t ss qs es d b root a =
         left.1 (by_leaves t h),
       ));
     }
-
-pub some_out_of_memory : (qs : List Seat) → worst_stop qs ≡ Some Memory → SomeIsOutOfMemory qs
-some_out_of_memory qs e = memory_stopped qs e

@@ -12,9 +12,9 @@ use Rattle.steal_pool.specs.declared.seat.Stop.TheVariants.{Full, Memory as OutO
 use Rattle.steal_pool.specs.Seats.{Seat}
 use Rattle.steal_pool.specs.Pools.{AccountFor, AreCounted, ComeBack, IfTooMany, IsLeftOver, IsRefused, KeepNone, LeavesOver, NoneIsOutOfMemory, SomeIsOutOfMemory, entered_in, rounds_of}
 use Rattle.steal_pool.specs.Closing.{Ended, Leaves, SomeIsFull, worst_stop}
-use Rattle.steal_pool.proofs.Ending.{all_entered, come_back, leaves_over, some_left_over, some_out_of_memory, some_refused, worst_is_full}
+use Rattle.steal_pool.proofs.Ending.{all_entered, come_back, leaves_over, some_left_over, some_refused, worst_is_full}
 use Rattle.steal_pool.proofs.RoundsEnd.{rounds_at_end}
-use Rattle.steal_pool.proofs.Stopping.{none_stopped}
+use Rattle.steal_pool.proofs.Stopping.{memory_stopped, none_stopped}
 
 pub if_ok : {A E : Type 0} (r : Result A E) (P Q : A → Type 0) → IfOk r P → ((x : A) → P x → Q x) → IfOk r Q
 if_ok (Ok x) P Q p f = f x p
@@ -42,7 +42,7 @@ module _ (t : Rules) (ss qs : List Seat) (es : List LedgerSeat) (worst : Option 
   rounds e root sound valid account counted = (qs, d, none e, rounds_at_end t ss qs es d b (none e) root sound valid account counted)
 
   pub out_of_memory : worst ≡ Some OutOfMemory → (ended : List Seat) × Ended t ss ended × SomeIsOutOfMemory ended × ((root : Node) → AccountFor t root ss → LeavesOver t root ended)
-  out_of_memory e = (qs, d, some_out_of_memory qs (sym w ∙ e), (λ root a. leaves_over t ss qs es d b root a))
+  out_of_memory e = (qs, d, memory_stopped qs (sym w ∙ e), (λ root a. leaves_over t ss qs es d b root a))
 
   full : (leaf : Leaf) → worst ≡ Some (Full leaf) → NoneIsOutOfMemory qs × SomeIsFull t leaf qs
   full leaf e = worst_is_full t qs leaf d.left (sym w ∙ e)

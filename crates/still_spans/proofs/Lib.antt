@@ -1,5 +1,7 @@
 mod FollowingShares
 mod Begun
+mod Cleared
+mod Manners
 mod Changing
 mod Cutting
 mod Descent

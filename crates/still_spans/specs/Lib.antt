@@ -5,3 +5,5 @@ pub mod Knowledge
 pub mod Found
 pub mod Below
 pub mod EndSigns
+pub mod Manners
+pub mod Signs

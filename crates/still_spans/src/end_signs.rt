@@ -9,10 +9,9 @@ ghost use Rattle.spec_stills.specs.Still.{IsStill};
 ghost use Rattle.still_spans.specs.EndSigns.{HasEndSigns};
 
 use crate::beginning::may_be_split;
-use crate::eager_judge::EagerJudge;
 use crate::still_list::StillList;
 use event_judge::EventSearch;
-use gf_hooks::{Judge, Node, Verdict, differ, has_no_turn, turn_to};
+use gf_hooks::{Node, Verdict, differ, has_no_turn, turn_to};
 use ival_core::Sign;
 
 // Tells whether a node is wider than one tick.
@@ -113,19 +112,5 @@ impl StillList {
             return None;
         };
         verdict_by_end_signs(search, node, first, last)
-    }
-}
-
-impl<'j, 'e, J: Judge> EagerJudge<'j, 'e, J> {
-    /// Returns the verdict of a node of the search, not of its eager tree: by the signs of the still spans that hold
-    /// its ends, if these tell it, and else by the other judge, which encloses the function anew.
-    pub(crate) fn verdict(&self, node: Node) -> Verdict
-        requires { IsValid (rules self.now.search.now) node }
-        ensures { result ≡ verdict_of self.now.search.now node }
-    {
-        match self.stills.verdict_by_signs(self.search, node) {
-            Some(verdict) => verdict,
-            None => self.judge.judge(node),
-        }
     }
 }

@@ -5,7 +5,7 @@ ghost use Rattle.spec_searches.specs.Found.{rules};
 ghost use Rattle.spec_stills.specs.Settled.{is_cleared};
 ghost use Rattle.still_spans.specs.Below.{IsBelow, holds_begin};
 
-use crate::eager_judge::EagerJudge;
+use crate::still_judge::StillJudge;
 use gf_hooks::{Judge, Node, Verdict};
 
 /// The least ratio of the widths of a node and a leaf at which the descent to the leaf goes on below the node.
@@ -23,7 +23,7 @@ fn is_far_wider(at: Node, node: Node) -> bool {
     node.b.abs_diff(node.a) <= at.b.abs_diff(at.a) / WIDER
 }
 
-impl<'j, 'e, J: Judge> EagerJudge<'j, 'e, J> {
+impl<'j, 'e, J: Judge> StillJudge<'j, 'e, J> {
     // Returns the first node, on the way down the tree from `at` to `node`, that is less than 64 times as wide as
     // `node`, or the leaf of the tree at which the way ends before.
     #[tactic(auto, using(crate::proofs::Descent::itself))]

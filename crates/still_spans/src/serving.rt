@@ -1,5 +1,5 @@
 // The still span that serves a node of a search, and how many leaves of its tree leaves of the eager tree stand for.
-ghost use Rattle.std.specs.Prelude.{◌≡◌, ◌≤◌, ◌<ℤ◌, ◌*◌, ◌^◌, IfSome, min, nat_le};
+ghost use Rattle.std.specs.Prelude.{◌≡◌, ◌&&◌, ◌≤◌, ◌<ℤ◌, ◌*◌, ◌^◌, IfSome, min, nat_le};
 ghost use Rattle.spec_trees.specs.Tree.{HasTime, width};
 ghost use Rattle.spec_stills.specs.Still.{is_fine_enough, is_half, is_near_enough, lies_in, serves};
 ghost use Rattle.spec_stills.specs.Weights.{fewest_halvings, first_serving, halvings_of, weight};
@@ -18,6 +18,15 @@ fn node_lies_in_span(still: StillSpan, node: Node) -> bool
     ensures { result ≡ lies_in still node }
 {
     still.from <= node.a && node.b <= still.upto
+}
+
+/// Tells whether a still span shows that a node is clear: the node lies in the span, and is no wider than the nodes that
+/// are clear there.
+#[inline(always)]
+pub(crate) fn span_clears_node(still: StillSpan, node: Node) -> bool
+    ensures { result ≡ (lies_in still node && nat_le (width node) still.widest) }
+{
+    node_lies_in_span(still, node) && node.b.abs_diff(node.a) <= still.widest
 }
 
 // Returns the number of parts into which `halvings` halvings cut a node: 2 to that power. The remainder by 64 changes

@@ -7,7 +7,7 @@ ghost use Rattle.spec_searches.specs.Search.{parts, verdict_of};
 ghost use Rattle.spec_stills.specs.Settled.{holds, is_cleared, part_with, settled, settled_by};
 ghost use Rattle.still_spans.specs.Below.{IsBelow};
 
-use crate::eager_judge::EagerJudge;
+use crate::still_judge::StillJudge;
 use gf_hooks::{Judge, Node, Verdict};
 use spec_trees::{Leaf, Mark};
 
@@ -47,7 +47,7 @@ fn mark_clear_if(cleared: bool, leaf: Leaf) -> Leaf
     }
 }
 
-impl<'j, 'e, J: Judge> EagerJudge<'j, 'e, J> {
+impl<'j, 'e, J: Judge> StillJudge<'j, 'e, J> {
     /// Returns the part of `at`, which the search splits, in which `node` begins. It is narrower than `at`, so a
     /// descent by it ends.
     pub(crate) fn part_towards(&self, at: Node, node: Node) -> Node

@@ -1,14 +1,19 @@
 // A list of still spans in order of time, in which one is found by halving.
-ghost use Rattle.std.specs.Prelude.{◌≡◌, ◌<◌, ◌≤◌, All, IfSome, get_or, int_le, length, nat_eq};
-ghost use Rattle.spec_searches.specs.Search.{Search};
-ghost use Rattle.spec_bounds.specs.Steady.{sign_at};
+ghost use Rattle.std.specs.Prelude.{◌≡◌, ◌<◌, ◌≤◌, ℤ, All, IfSome, IsTrue, get_or, int_le, length, nat_eq};
+ghost use Rattle.spec_intervals.specs.declared.signs.Sign.{Sign};
+ghost use Rattle.spec_trees.specs.declared.tree.Verdict.TheVariants.{Clear};
+ghost use Rattle.spec_trees.specs.Tree.{IsValid};
+ghost use Rattle.spec_searches.specs.Found.{rules};
+ghost use Rattle.spec_searches.specs.Search.{Search, verdict_of};
 ghost use Rattle.spec_stills.specs.declared.still.StillSpan.{StillSpan};
 ghost use Rattle.spec_stills.specs.Still.{IsStill};
 ghost use Rattle.still_spans.specs.Order.{are_in_order, follow, in_order_or_none, is_next};
+ghost use Rattle.still_spans.specs.Signs.{TellSigns};
 ghost use Rattle.still_spans.specs.Stands.{IsCount};
 ghost use Rattle.still_spans.specs.declared.limits.TheConstants.{MAX_HALVINGS};
 
 use crate::limits::MAX_HALVINGS;
+use crate::serving::span_clears_node;
 use ival_core::Sign;
 use spec_stills::StillSpan;
 use spec_trees::Node;
@@ -101,10 +106,10 @@ impl StillList {
     }
 
     /// Returns the sign that the function of a search has at a time, if one of the still spans holds the time, or none.
-    /// Where one span ends as the next begins, the later one tells.
-    pub(crate) fn sign_at(&self, time: i64) -> Option<Sign>
-        ensures { (s : Search) → All (IsStill s) self.now
-            → IfSome result (λ sign. sign_at s time ≡ sign) }
+    /// If one span ends as the next begins, the later one tells.
+    pub fn sign_at(&self, time: i64) -> Option<Sign>
+        ensures { (point : ℤ → Sign) → TellSigns point self.now
+            → IfSome result (λ sign. point time ≡ sign) }
     {
         let count = self.spans.partition_point(
             |still: &StillSpan| -> bool
@@ -120,6 +125,18 @@ impl StillList {
         } else {
             None
         }
+    }
+
+    /// Tells whether a still span of the list shows that a node of the search is clear: the node lies in the span, and is
+    /// no wider than the nodes that are clear there.
+    pub(crate) fn clears_node(&self, node: Node) -> bool
+        ensures { (s : Search) → All (IsStill s) self.now → IsValid (rules s) node
+            → IsTrue result → verdict_of s node ≡ Clear }
+    {
+        let Some(place) = self.count_begun_by(node).checked_sub(1) else {
+            return false;
+        };
+        span_clears_node(self.span_at(place), node)
     }
 
     /// Returns the number of still spans in the list.

@@ -125,7 +125,7 @@ def almanac(
     With a `place` it has the Sun and the Moon by day, planets by week, and eclipses and occultations as they are seen
     there; UT1 is by the table of the IERS that astropy ships, or TT less `delta_t` seconds. With `pluto` it has Pluto's
     events, with `stars` the Moon passes and covers stars of the first magnitude. Searches are processes of their own,
-    `jobs` of them at once; `progress` is called with the number of searches that are done. It wants the package erfa,
+    `jobs` of them at once; `progress` is called with the number of searches that are done. It needs the package erfa,
     which comes with astropy: `NoErfa` if it is missing. A `ValueError` names the files that are not one series, and
     `SpanNotHeld` says that they do not hold the span, before any search.
 

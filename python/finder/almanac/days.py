@@ -86,7 +86,7 @@ def days_of(found: Almanac, clock: Clock) -> list[Day]:
         return []
     sun, moon = _by_day(local.sun, clock), _by_day(local.moon, clock)
     dates = _dates(found, clock)
-    noons = np.array([clock.seconds_of(datetime.datetime.combine(date, datetime.time(12))) for date in dates])
+    noons = clock.all_seconds_of([datetime.datetime.combine(date, datetime.time(12)) for date in dates])
     states = {body: _states(local, body, dates, rows, noons) for body, rows in (("sun", sun), ("moon", moon))}
     lit = np.interp(noons + DAY / 4, local.lit_times, local.lit)
     made = []
@@ -124,7 +124,7 @@ def weeks_of(found: Almanac, clock: Clock) -> dict[str, list[WeekRow]]:
     if local is None:
         return {}
     dates = _dates(found, clock)[::WEEK]
-    noons = np.array([clock.seconds_of(datetime.datetime.combine(date, datetime.time(12))) for date in dates])
+    noons = clock.all_seconds_of([datetime.datetime.combine(date, datetime.time(12)) for date in dates])
     made = {}
     for body, moments in local.planets.items():
         # (a day's moments are within half a day of its noon, or an hour more where clocks change)

@@ -25,7 +25,7 @@ from .texts import Found, Recipe, Search, Text, Texts
 
 # What is said of a moment without a search.
 COMPUTED = "computed in doubles"
-# The radius in km within which the axis of the Moon's shadow meets the Earth (docs/RECIPES.md).
+# The radius in km within which the axis of the Moon's shadow meets the Earth (docs/guide/recipes.md).
 CENTRAL = 6_350.0
 # Contacts of one event are less than half a day apart; the greatest is within an hour of them, or two where there is
 # one contact alone.

@@ -9,8 +9,7 @@ from typing import Optional
 import numpy as np
 
 from ..ephemeris.series import Series
-from ..seen.values import AU
-from ..seen.vectors import Floats, angle, latitude, length, longitude, wrapped
+from ..seen.vectors import AU, Floats, angle, latitude, length, longitude, wrapped
 from .entries import PLANETS, Contact, Entry, Event, Group, Numbers, Side, Way
 from .names import INNER, Pair
 from .texts import Found, Search, Text, Texts

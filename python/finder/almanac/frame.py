@@ -11,7 +11,7 @@ from typing import Optional
 from ..seen.scales import Clock
 from .entries import Entry, Event
 
-# The width of a letter of a label, in parts of its height, and the room between two labels.
+# The width of a letter of a label, in parts of its height, and the space between two labels.
 LETTER, GAP = 0.56, 6.0
 MARK = 8.0
 MARKS = {
@@ -26,7 +26,7 @@ MARKS[Event.INFERIOR_CONJUNCTION] = MARKS[Event.SUPERIOR_CONJUNCTION] = MARKS[Ev
 
 @dataclass(frozen=True)
 class Frame:
-    """A span of seconds of TDB since J2000 on a width, with room at the left for names, and the height of letters."""
+    """A span of seconds of TDB since J2000 on a width, with space at the left for names, and the height of letters."""
 
     start: float
     end: float
@@ -87,7 +87,7 @@ class Label:
 
 
 def labels(frame: Frame, texts: Sequence[tuple[float, str]], most: int) -> list[Optional[Label]]:
-    """A row for each text beside a mark at its place, so that none covers another: None where no row has room."""
+    """A row for each text beside a mark at its place, so that none covers another: None if no row has space."""
     taken: list[list[tuple[float, float]]] = [[] for _ in range(most)]
     made: list[Optional[Label]] = []
     for place, text in texts:

@@ -19,7 +19,7 @@ from .frame import MARKS, Frame, day_text
 from .notes import COMPUTED, PROVED, contact_text, notes, sums_of, warning, window_text
 from .packages import jinja2_package
 from .style import style
-from .tables import month_of, month_title
+from .tables import month_of, month_title, shown_times
 from .template import PAGE
 
 # What a year is remembered by.
@@ -45,7 +45,7 @@ LINE = (
     "sky. Shaded: it moves backward. "
 )
 THICK = "A thick meeting is closer than a degree."
-# Drawings: widths, with room for names and at the right edge, and heights of letters.
+# Drawings: widths, with space for names and at the right edge, and heights of letters.
 WHOLE = (1_000.0, 80.0, 10.0, 11.0)
 HALF = (360.0, 66.0, 6.0, 9.5)
 # A drawing is of less than these days, and is cut in two for a phone where it is of more than those.
@@ -79,8 +79,9 @@ def periods(found: Almanac, clock: Clock) -> list[Period]:
 
 
 def html_of(found: Almanac, clock: Clock) -> str:
-    """The page: each year at a glance and as drawings, and tables for each month. It wants the package jinja2."""
+    """The page: each year at a glance and as drawings, and tables for each month. It needs the package jinja2."""
     environment = jinja2_package().Environment(autoescape=True, trim_blocks=True, lstrip_blocks=True)
+    clock = shown_times(found, clock)
     days = days_of(found, clock)
     return str(
         environment.from_string(PAGE).render(
@@ -177,7 +178,7 @@ def _key_mark(event: Event) -> str:
 
 
 def _zone_name(clock: Clock) -> str:
-    """The name of a clock where there is little room."""
+    """The name of a clock where there is little space."""
     return clock.name.rpartition("/")[2].replace("_", " ")
 
 

@@ -13,7 +13,7 @@ from .packages import icalendar_package
 
 
 def ics_of(found: Almanac, clock: Clock) -> str:
-    """The calendar: an event lasts where it has several moments. Its times are UTC, whatever the clock. It wants the
+    """The calendar: an event lasts where it has several moments. Its times are UTC, whatever the clock. It needs the
     package icalendar."""
     package = icalendar_package()
     made = package.Calendar()

@@ -64,7 +64,7 @@ def names(
     """
     if not isinstance(found, Windows):
         raise TypeError(f"the windows of a search are wanted, and not {type(found).__name__}")
-    rise, fall = pair_of(found.asked)
+    rise, fall = pair_of(found.request_words)
     of_turn = {"rise": rise, "fall": fall}
     made = [of_turn.get(word, "undecided") for word in (found.turn if turn is None else turn).tolist()]
     if east is None or rise != "greatest elongation":

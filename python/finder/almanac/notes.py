@@ -74,7 +74,7 @@ def contact_text(contact: Contact) -> str:
 
 
 def window_text(contact: Contact) -> str:
-    """The times of a window on the calendar of TDB, one where it is a single second; nothing where there is none."""
+    """The times of a window on the calendar of TDB, one where it is a single second; nothing if there is none."""
     if contact.window is None:
         return ""
     first, last = (spans.time_text(ticks, contact.window.tick) for ticks in contact.window[:2])

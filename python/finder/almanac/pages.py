@@ -9,8 +9,6 @@ from ..public import public
 from ..searches.words import one_of
 from ..seen.scales import Clock
 from .entries import Almanac
-from .html import html_of
-from .ics import ics_of
 from .tables import csv_of, json_of, text_of
 
 
@@ -30,7 +28,20 @@ class Format(Enum):
     ICS = "ics"
 
 
-MAKERS = {Format.TEXT: text_of, Format.HTML: html_of, Format.CSV: csv_of, Format.JSON: json_of, Format.ICS: ics_of}
+def _html_of(found: Almanac, clock: Clock) -> str:
+    # (its drawings and its template are loaded where a page is wanted)
+    from .html import html_of
+
+    return html_of(found, clock)
+
+
+def _ics_of(found: Almanac, clock: Clock) -> str:
+    from .ics import ics_of
+
+    return ics_of(found, clock)
+
+
+MAKERS = {Format.TEXT: text_of, Format.HTML: _html_of, Format.CSV: csv_of, Format.JSON: json_of, Format.ICS: _ics_of}
 
 
 @public

@@ -9,7 +9,7 @@ from dataclasses import dataclass
 from ..seen.vectors import Floats, length
 from .entries import EclipseKind
 
-# Radii in km (docs/RECIPES.md). The Earth's for its shadow is enlarged by about one part in 100, for the air.
+# Radii in km (docs/guide/recipes.md). The Earth's for its shadow is enlarged by about one part in 100, for the air.
 SUN, MOON, EARTH, SHADOW = 695_700.0, 1_737.4, 6_378.1, 6_442.4
 # The Moon's radius in that of the Earth's equator for its umbra and for its penumbra, the greatest distance in it at
 # which a shadow's axis meets the flat Earth, and the limits below which an eclipse is of both kinds, annular and total

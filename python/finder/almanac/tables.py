@@ -14,7 +14,7 @@ from itertools import groupby
 from typing import Any, Optional
 
 from .. import spans
-from ..seen.scales import UTC, Clock, Scale
+from ..seen.scales import UTC, Clock, ReadyClock, Scale
 from ..sky.bodies import short_title
 from ..sky.moments import Moment
 from .days import MOON, SUN, Day, WeekRow, days_of, weeks_of
@@ -42,9 +42,25 @@ def month_title(month: datetime.date) -> str:
     return f"{month:%B} {month.year}"
 
 
+def shown_times(found: Almanac, clock: Clock) -> Clock:
+    """The clock, ready for the minutes of entries and the seconds of contacts."""
+    seconds = [entry.seconds + 30 for entry in found.entries]
+    return ReadyClock.of_times(clock, seconds + [each.seconds + 0.5 for entry in found.entries for each in entry.contacts])
+
+
+def _exact_times(found: Almanac, clock: Clock) -> Clock:
+    """The clock, ready for the milliseconds of entries and contacts, and of what stands in the tables of days and
+    weeks."""
+    seconds = [entry.seconds for entry in found.entries]
+    seconds += [contact.seconds for entry in found.entries for contact in entry.contacts]
+    seconds += [moment.seconds for _, moment in _daily(found)]
+    return ReadyClock.of_times(clock, [each + 5e-4 for each in seconds])
+
+
 def text_of(found: Almanac, clock: Clock) -> str:
     """Lines for a terminal: by month what the place sees by day, if there is one, and the entries: day, time, event,
     numbers, and the certified window in TDB; then planets by week, and the notes."""
+    clock = shown_times(found, clock)
     lines = [f"{found.title}, times in {clock.name}, certified windows in TDB", ""]
     months = {month: list(rows) for month, rows in groupby(found.entries, key=lambda entry: month_of(entry, clock))}
     of_days = groupby(days_of(found, clock), key=lambda day: day.date.replace(day=1))
@@ -109,6 +125,7 @@ def _lines_of(entry: Entry, clock: Clock) -> Iterator[str]:
 def csv_of(found: Almanac, clock: Clock) -> str:
     """A table with a row for each moment of each entry, as RFC 4180 has it; of a place also one for each rising,
     transit and setting, and each begin and end of a twilight."""
+    clock = _exact_times(found, clock)
     made = io.StringIO(newline="")
     writer = csv.writer(made)
     numbers = [field.name for field in fields(Numbers)]
@@ -133,7 +150,7 @@ def _has_zone(clock: Clock) -> bool:
 
 def _times(seconds: float, clock: Clock) -> list[str]:
     """The time in the scale, in UTC where that is it, and in the zone; and in seconds of TDB."""
-    plain = Clock(clock.scale).iso(seconds)
+    plain = clock.plain().iso(seconds)
     return [plain, *([clock.iso(seconds)] if _has_zone(clock) else []), f"{seconds:.3f}"]
 
 
@@ -179,13 +196,14 @@ def _row_of(entry: Entry, contact: Contact, clock: Clock) -> Iterator[str]:
 
 
 def _numbers_of(numbers: Numbers) -> dict[str, Any]:
-    """The numbers by their names, None where there is none."""
+    """The numbers by their names, None if there is none."""
     return {name: value.value if isinstance(value, Enum) else value for name, value in asdict(numbers).items()}
 
 
 def json_of(found: Almanac, clock: Clock) -> str:
     """One object: the entries with their moments, numbers and requests, and what they come from; of a place also its
     days and weeks."""
+    clock = _exact_times(found, clock)
     whole: dict[str, Any] = {
         "title": found.title,
         "scale": clock.scale.value,
@@ -252,7 +270,7 @@ def _contact_of(contact: Contact, clock: Clock) -> dict[str, Any]:
         "name": contact.name,
         "meaning": moment_text(contact),
         "status": contact.status.value,
-        "seen": {clock.scale.value: Clock(clock.scale).iso(contact.seconds), "tdb_s": round(contact.seconds, 3)},
+        "seen": {clock.scale.value: clock.plain().iso(contact.seconds), "tdb_s": round(contact.seconds, 3)},
         "certified_tdb": window,
         "searched": contact.text,
         "request": contact.request,

@@ -9,6 +9,7 @@ from dataclasses import dataclass, field
 from enum import Enum
 from typing import Any, Optional, Protocol
 
+from ..ephemeris.apparent_places import Model, SharedMoments
 from ..ephemeris.ephemeris import Ephemeris
 from ..ephemeris.series import Series
 from ..ephemeris.stars import Star
@@ -97,10 +98,12 @@ class Texts:
         self._runs = runs
         self.cache = cache
         self.planets = (*PLANETS, "pluto") if pluto else PLANETS
+        self._moments = SharedMoments()
 
     def _sky(self, axes: str) -> Sky:
         bodies = [body for body in ("sun", "moon", *self.planets) if body in self.source.names]
-        made = self.source.sky(None, *map(float, self.span), axes=axes, bodies=bodies, cache=self.cache)
+        words = {"bodies": bodies, "cache": self.cache, "moments": self._moments}
+        made = Sky.of(self.source, None, *map(float, self.span), Model(axes=axes), **words)
         return made.run_by(self._runs)
 
     @functools.cached_property

@@ -138,7 +138,7 @@ def _groups(text: str) -> tuple[Group, ...]:
 
 
 def clock_of(words: argparse.Namespace, year: int) -> Clock:
-    """The clock that is asked for; ends the program with status 2 where there is none such."""
+    """The clock that is asked for; ends the program with status 2 if there is none."""
     scale = Scale(words.scale) if words.scale else Scale.UTC if year >= FIRST_UTC_YEAR else Scale.TT
     if words.tz and scale is not Scale.UTC:
         words.refuse(f"a time zone is of UTC, and the scale is {scale.value}: leave --tz out")

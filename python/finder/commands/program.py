@@ -11,7 +11,7 @@ from ..searches.kinds import BODIES, COVERS, ROWS, SET_KINDS, kinds_with, listed
 
 # The words whose reports can be printed as tables.
 TABLED = ("find", "set", "verify")
-FILES = "\nFILE.. are a header and files of blocks, from early to late; the manual is docs/USAGE.md."
+FILES = "\nFILE.. are a header and files of blocks, from early to late; the manual is docs/guide/usage.md."
 TIMES = "a time of TDB, as 2000-05-01T00:00:00, or whole seconds since J2000"
 NUMBER = "a decimal: km; of sep the cosine of an angle"
 OPTIONS = {
@@ -35,7 +35,7 @@ OPTIONS = {
     "--depth": ("N", "0 to 40, how many cuts may lead to a piece: 40"),
     "--workers": ("N", "1 to 64 threads: 1"),
     "--cut": ("half|third", "where a piece is cut: half"),
-    "--format": ("FORM", "table, csv, json or parquet in place of the report; made in Python, which wants pandas"),
+    "--format": ("FORM", "table, csv, json or parquet in place of the report; made in Python, which needs pandas"),
 }
 OF_SETS = ("--relation", "--ref2")
 OTHERS = {
@@ -77,7 +77,7 @@ def _has(word: str, option: str) -> bool:
 
 
 def split_format(words: Sequence[str]) -> tuple[list[str], str]:
-    """The words without `--format` and its value, and the value; the empty text where there is none."""
+    """The words without `--format` and its value, and the value; the empty text if there is none."""
     left, form = list(words), ""
     end = left.index("--") if "--" in left else len(left)
     for place, word in enumerate(left[:end]):

@@ -19,7 +19,7 @@ DESCRIPTION = """\
 Reads reports that the program printed, of windows or of sets of times, and prints them as one table: a row for each
 window, or for each sure and each possible span. Each line of a report is checked, and the counts of its last one.
 
-Times are TDB; the columns that end in _ms are milliseconds since J2000. It wants pandas, and parquet wants pyarrow."""
+Times are TDB; the columns that end in _ms are milliseconds since J2000. It needs pandas, and parquet needs pyarrow."""
 EXAMPLES = """\
 examples:
   finder report moons --format csv >moons.csv

@@ -21,9 +21,9 @@ HEAD, FOOT = 26.0, 6.0
 NEAREST, FARTHEST = 356_000.0, 407_000.0
 # Degrees from the Sun at the edges of an inner planet's lane, and of another's.
 INNER_MOST, OUTER_MOST = 50.0, 180.0
-# Meetings closer than this many degrees are drawn thick, and named where there is room.
+# Meetings closer than this many degrees are drawn thick, and named if there is space.
 CLOSE = 1.0
-# The least seconds between two phases of the Moon, and the width of one with the room about it.
+# The least seconds between two phases of the Moon, and the width of one with the space about it.
 BETWEEN_PHASES, PHASE_WIDTH = 6.5 * spans.DAY, 14.0
 MOST_ROWS, MEETING_ROWS = 6, 2
 DARK = '<circle r="6" fill="var(--dark)" stroke="var(--soft)" stroke-width=".8"/>'
@@ -109,8 +109,8 @@ class Drawing:
                 yield f'<text x="{(left + right) / 2:.1f}" y="17" text-anchor="middle" class="month">{when:%b}</text>'
 
     def _phases(self, lane: Lane) -> Iterator[str]:
-        room = self._frame.x(self._frame.start + BETWEEN_PHASES) - self._frame.left
-        scale = min(1.0, room / PHASE_WIDTH)
+        space = self._frame.x(self._frame.start + BETWEEN_PHASES) - self._frame.left
+        scale = min(1.0, space / PHASE_WIDTH)
         for entry in self._entries:
             if entry.event in PHASES:
                 shape = f'{tip(entry, self._clock)}<g transform="scale({scale:.2g})">{PHASES[entry.event]}</g>'

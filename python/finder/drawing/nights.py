@@ -201,8 +201,8 @@ def heavens_of(local: LocalYear, clock: Clock, start: float, end: float) -> Heav
     """The altitudes of the nights that begin in a span of seconds since J2000 (TDB)."""
     (sky,) = local.skies
     first = clock.at(start + 1).date()
-    dates = (first + datetime.timedelta(days=number) for number in range(round((end - start) / DAY)))
-    made = np.array([clock.seconds_of(datetime.datetime.combine(date, datetime.time(12))) for date in dates])
+    dates = [first + datetime.timedelta(days=number) for number in range(round((end - start) / DAY))]
+    made = clock.all_seconds_of([datetime.datetime.combine(date, datetime.time(12)) for date in dates])
     low, high = sky.span
     noons = made[(made >= low) & (made + DAY <= high)]
     hours = np.arange(HOURS * 60 // STEP + 1) * (STEP * 60.0)

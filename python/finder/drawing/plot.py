@@ -64,7 +64,7 @@ def curve(
         if files is None:
             raise TypeError("the files of the search are wanted, or a series of them")
         series = Series(files, low - spans.DAY, high + spans.DAY)
-    of_kind = Curve(series, found.asked)
+    of_kind = Curve(series, found.request_words)
     times = np.linspace(low, high, points)
     return Points(times, of_kind.at(times), of_kind.unit)
 

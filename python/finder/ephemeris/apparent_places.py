@@ -7,23 +7,22 @@ the rules of ERFA: `ld`, `ab`, `gst06`, `gd2gc`, and for the axes of date preces
 
 from __future__ import annotations
 
-from collections.abc import Mapping
+from collections.abc import Callable, Mapping
 from dataclasses import dataclass, field
 from typing import Any, Optional
 
 import numpy as np
 
 from ..reports.calendar import DAY
-from ..seen.apparent import check_axes, erfa_package, frames_of_date
+from ..seen.apparent import HALF_DAY, AtHalfDays, check_axes, erfa_package, frames_of_date
 from ..seen.curves import LIGHT
-from ..seen.vectors import Floats, floats, length
+from ..seen.vectors import AU, Floats, floats, length
 from ..sky.earth_rotation import EarthRotation
 from ..sky.place import Place
 from .order import J2000_DATE
 from .series import Series
 from .stars import STAR_DISTANCE
 
-AU = 149_597_870.7
 # Each pass leaves a part of v/c of the fault of a place before: the third some decimetres.
 PASSES = 3
 # The least of 1 + cos by which light is bent: 0.256 degrees from the Sun's centre, within its disc, where nothing is
@@ -71,40 +70,70 @@ class Model:
 
 @dataclass
 class _Moment:
-    """What all bodies share at some times: the observer in km and km/s from the barycentre, the Sun, the axes of date,
-    and the direction of the zenith there."""
+    """What all bodies have in common at some times: the observer in km and km/s from the barycentre, the Sun, the axes of
+    date and the direction of the zenith, if there is a place; and the places of bodies by name, as they are made. All
+    are on the axes of the source."""
 
     times: Floats
     here: Floats
     speed: Floats
     sun: Floats
-    axes: Optional[Floats]
-    zenith: Optional[Floats] = field(default=None)
+    of_date: Optional[Floats] = None
+    zenith: Optional[Floats] = None
+    made: dict[str, Floats] = field(default_factory=dict)
+
+
+class SharedMoments:
+    """The moments of one observer, kept by their times: two skies that differ in their axes alone have them in common."""
+
+    def __init__(self) -> None:
+        self._kept: dict[bytes, _Moment] = {}
+
+    def at(self, times: Floats, make: Callable[[Floats], _Moment]) -> _Moment:
+        """That of some times, which is made if it is not there."""
+        key = times.tobytes()
+        if key not in self._kept:
+            self._kept[key] = make(times)
+        return self._kept[key]
 
 
 class ApparentSky:
-    """Places of bodies from an observer on the Earth or at its centre, by name, at seconds since J2000 (TDB)."""
+    """Places of bodies from an observer on the Earth or at its centre, by name, at seconds since J2000 (TDB).
 
-    def __init__(self, series: Series, place: Optional[Place], rotation: Optional[EarthRotation], model: Model) -> None:
+    `moments` are those of another sky of the same observer over the same series, which counts the same of the way of
+    light.
+    """
+
+    def __init__(
+        self,
+        series: Series,
+        place: Optional[Place],
+        rotation: Optional[EarthRotation],
+        model: Model,
+        moments: Optional[SharedMoments] = None,
+    ) -> None:
         if place is not None or model.axes != "j2000":
             check_axes(series.number, "axes='j2000' gives the sky of the Earth's centre on the axes of the source")
         self._series = series
         self._place = place
         self._rotation = rotation
         self._model = model
+        self._moments = moments
 
     def _moment(self, times: Floats) -> _Moment:
         state = self._series.body("earth", times, rates=True)
-        here, speed = state[:3], state[3:]
-        of_date = frames_of_date("eq", times) if self._place or self._model.axes != "j2000" else None
-        zenith = None
-        if self._place is not None and of_date is not None:
-            spot, motion, zenith = self._spot(times, of_date)
-            here, speed = here + spot, speed + motion
-        axes = of_date if self._model.axes == "equator" else None
-        if self._model.axes == "ecliptic":
-            axes = frames_of_date("ecl", times)
-        return _Moment(times, floats(here), floats(speed), self._series.body("sun", times), axes, zenith)
+        here, speed, sun = state[:3], state[3:], self._series.body("sun", times)
+        if self._place is None:
+            return _Moment(times, here, speed, sun)
+        of_date = frames_of_date("eq", times)
+        spot, motion, zenith = self._spot(times, of_date)
+        return _Moment(times, floats(here + spot), floats(speed + motion), sun, of_date, zenith)
+
+    def _axes(self, moment: _Moment) -> Optional[Floats]:
+        """The matrices that turn places to the axes of the model."""
+        if self._model.axes == "equator":
+            return frames_of_date("eq", moment.times) if moment.of_date is None else moment.of_date
+        return frames_of_date("ecl", moment.times) if self._model.axes == "ecliptic" else None
 
     def _spot(self, times: Floats, of_date: Floats) -> tuple[Floats, Floats, Floats]:
         """Where the place is from the Earth's centre in km, how it moves in km/s, and the direction of its zenith, on
@@ -129,20 +158,22 @@ class ApparentSky:
     def places(self, times: Floats, bodies: Any, stars: Optional[Mapping[str, Any]] = None) -> dict[str, Floats]:
         """Places in km of bodies, and of stars of which each is a function of times, 3 by n, that gives its direction
         from the observer's place; `zenith` and `nadir` are directions."""
-        moment = self._moment(times)
-        made = {}
+        moment = self._moment(times) if self._moments is None else self._moments.at(times, self._moment)
         for body in bodies:
-            if body in ("zenith", "nadir"):
-                assert moment.zenith is not None
-                place = moment.zenith * (ZENITH_DISTANCE if body == "zenith" else -ZENITH_DISTANCE)
-            else:
-                place = self._body(body, moment)
-            made[body] = place
+            if body not in moment.made:
+                moment.made[body] = self._place_of(body, moment)
         for name, star in (stars or {}).items():
-            made[name] = self._seen(floats(star(times, moment.here)), STAR_DISTANCE, None, moment)
-        if moment.axes is None:
-            return made
-        return {name: floats(np.einsum("nij,jn->in", moment.axes, place)) for name, place in made.items()}
+            moment.made[name] = self._seen(floats(star(times, moment.here)), STAR_DISTANCE, None, moment)
+        made = {name: moment.made[name] for name in (*bodies, *(stars or {}))}
+        axes = self._axes(moment)
+        return made if axes is None else {name: floats(np.einsum("nij,jn->in", axes, made[name])) for name in made}
+
+    def _place_of(self, body: str, moment: _Moment) -> Floats:
+        """The place of a body or a direction on the axes of the source."""
+        if body not in ("zenith", "nadir"):
+            return self._body(body, moment)
+        assert moment.zenith is not None
+        return moment.zenith * (ZENITH_DISTANCE if body == "zenith" else -ZENITH_DISTANCE)
 
     def _body(self, body: str, moment: _Moment) -> Floats:
         """The place of a body on the axes of the source."""
@@ -191,18 +222,24 @@ def sidereal_angle(rotation: EarthRotation, times: Floats, of_date: Floats) -> F
     erfa = erfa_package()
     days = np.floor(times / DAY)
     rest = times - days * DAY
-    terrestrial = times - _tdb_less_tt(times)
-    late = _tdb_less_tt(times) + rotation.delta_t(terrestrial)
+    behind = _tdb_less_tt(times)
+    late = behind + rotation.delta_t(times - behind)
     date = J2000_DATE + days
     return floats(erfa.gst06(date, (rest - late) / DAY, date, rest / DAY, of_date))
 
 
+def _dtdb(days: Floats) -> Any:
+    return erfa_package().dtdb(J2000_DATE, days, 0.0, 0.0, 0.0, 0.0)
+
+
+# TDB less TT in seconds.
+TDB_LESS_TT = AtHalfDays(_dtdb, 1)
+
+
 def _tdb_less_tt(times: Floats) -> Floats:
     """TDB less TT in seconds: by ERFA's `dtdb` at each half day, and straight between them, to 2 10^-8 seconds."""
-    erfa = erfa_package()
-    half = DAY / 2
-    first, last = np.floor(times.min() / half), np.ceil(times.max() / half)
+    first, last = int(np.floor(times.min() / HALF_DAY)), int(np.ceil(times.max() / HALF_DAY))
     if last - first > 2 * len(times):
-        return floats(erfa.dtdb(J2000_DATE, times / DAY, 0.0, 0.0, 0.0, 0.0))
-    at = np.arange(first, last + 1) * half
-    return floats(np.interp(times, at, erfa.dtdb(J2000_DATE, at / DAY, 0.0, 0.0, 0.0, 0.0)))
+        return floats(_dtdb(times / DAY))
+    at = np.arange(first, last + 1)
+    return floats(np.interp(times, at * HALF_DAY, TDB_LESS_TT.rows(at)[0]))

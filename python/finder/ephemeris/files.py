@@ -6,6 +6,7 @@ import re
 from collections.abc import Callable, Iterator
 from dataclasses import dataclass
 from pathlib import Path
+from typing import TypeVar
 
 import numpy as np
 
@@ -17,9 +18,12 @@ from .order import J2000_DATE, WrongFiles
 SIZE = re.compile(rb"^[ \t]*KSIZE=[ \t]*[0-9]+[ \t]+NCOEFF=[ \t]*([0-9]+)[ \t]*\r?\n")
 HEAD_END = re.compile(rb"^[ \t]*GROUP[ \t]+1070[ \t]*\r?\n", re.MULTILINE)
 BLOCK = re.compile(rb"^[ \t]*[0-9]+[ \t]+([0-9]+)[ \t]*\r?\n", re.MULTILINE)
+# The same after the end of a line: that is found four times as fast.
+NEXT_BLOCK = re.compile(rb"\n[ \t]*[0-9]+[ \t]+([0-9]+)[ \t]*\r?(?=\n)")
 E_FOR_D = bytes.maketrans(b"Dd", b"EE")
 # As many bytes of a block have its two dates.
 DATES = 120
+Dates = TypeVar("Dates", float, Floats)
 # The series of a file that has JPL's name.
 JPL_NAME = re.compile(r"(?:header|asc[pm][0-9]+)\.([0-9]+t?)(?:_[0-9]+)?")
 
@@ -50,8 +54,8 @@ def number_of(word: str) -> float:
     return float(word.upper().replace("D", "E"))
 
 
-def seconds_of(date: float) -> float:
-    """The seconds since J2000 of a Julian date."""
+def seconds_of(date: Dates) -> Dates:
+    """The seconds since J2000 of a Julian date, or of an array of them."""
     return (date - J2000_DATE) * spans.DAY
 
 
@@ -70,7 +74,7 @@ def read(files: Files, start: float, end: float) -> Contents:
     def file_at(place: int) -> str:
         return names[int(np.searchsorted(begins, place, side="right")) - 1]
 
-    again = HEAD_END.search(text, head.end())
+    again = HEAD_END.search(text, head.end()) if text.find(b"GROUP", head.end()) >= 0 else None
     if again:
         raise WrongFiles(f"{file_at(again.start())} has a header of its own, as another series has: name one header")
     count = int(size[1])
@@ -88,13 +92,18 @@ def _kept(every: list[Block], count: int, start: float, end: float) -> tuple[Flo
     # (a block that only touches the span is none of it, but at the ends of the files)
     kept = [each for each in every if seconds_of(each.last) > start and seconds_of(each.first) < end]
     if not kept:
-        has, asked = (" to ".join(_text(time) for time in ends) for ends in ((low, high), (start, end)))
-        raise WrongFiles(f"the files have {has} (TDB), and nothing of {asked}")
+        raise nothing_of(low, high, start, end)
     # (a line has three numbers, and the last line is filled up)
     rows = [np.fromstring(each.text.translate(E_FOR_D), sep=" ")[:count] for each in kept]
     if {len(row) for row in rows} != {count}:
         raise WrongFiles("a block of the files is cut off: finder.check says where")
     return floats(rows), low, high
+
+
+def nothing_of(low: float, high: float, start: float, end: float) -> WrongFiles:
+    """The refusal of a span, the last two times in seconds since J2000, of which files of the first two have no block."""
+    has, wanted = (" to ".join(_text(time) for time in ends) for ends in ((low, high), (start, end)))
+    return WrongFiles(f"the files have {has} (TDB), and nothing of {wanted}")
 
 
 def _text(seconds: float) -> str:
@@ -116,9 +125,9 @@ def _refuse_names(names: list[str]) -> None:
 
 def _blocks(text: bytes, after: int, count: int, file_at: Callable[[int], str]) -> Iterator[Block]:
     """The blocks of a text after its header, which has said how many numbers are in each."""
-    heads = list(BLOCK.finditer(text, after))
-    for found, stop in zip(heads, [later.start() for later in heads[1:]] + [len(text)]):
-        name, begin = file_at(found.start()), found.end()
+    heads = list(NEXT_BLOCK.finditer(text, after - 1))
+    for found, stop in zip(heads, [later.start() + 1 for later in heads[1:]] + [len(text)]):
+        name, begin = file_at(found.start() + 1), found.end() + 1
         if int(found[1]) != count:
             raise WrongFiles(
                 f"{name} has blocks of {int(found[1])} numbers, and the header says {count}: they are of two series"

@@ -12,7 +12,7 @@ from ..reports.calendar import DAY
 from ..seen.vectors import Floats
 from . import writing
 from .blocks import Layout, layouts
-from .cache import Kept, kept, key_of
+from .cache import Kept, Made, kept, key_of
 from .chebyshev import Grid
 from .columns import FREE, MASS_RATIO
 from .fitting import (
@@ -72,7 +72,7 @@ def fit(
     series = [column.coefficients.tobytes() for column in whole.columns.values()]
     return kept(
         key_of(["fit", list(titles), about["names"], whole.start, whole.block, *series]),
-        lambda: (writing.files(whole), about),
+        lambda: Made(writing.files(whole), about),
         cache,
     )
 

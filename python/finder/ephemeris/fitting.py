@@ -238,8 +238,8 @@ def _coefficients_needed(
     """The coefficients that granules of a length need in some places of a span, or None where those that are tried are
     not enough; and what the last ones are, in km."""
     random = np.random.default_rng(SEED)
-    room = max(0.0, end - start - size)
-    starts = start + np.concatenate([[0.0, room], random.uniform(0, room, PLACES)])
+    free = max(0.0, end - start - size)
+    starts = start + np.concatenate([[0.0, free], random.uniform(0, free, PLACES)])
     offsets = size * (nodes(TRIED) + 1) / 2
     times = starts[:, None] + offsets
     places = places_of(motions, times.ravel())[name]

@@ -35,7 +35,7 @@ class HasNames(Protocol):
         """The frames in which a search may ask for longitudes."""
 
     @property
-    def asked(self) -> tuple[Optional[float], Optional[float]]:
+    def requested_span(self) -> tuple[Optional[float], Optional[float]]:
         """The span of a search that names none, in seconds since J2000 (TDB)."""
 
     @property
@@ -45,14 +45,14 @@ class HasNames(Protocol):
 
 @dataclass(frozen=True)
 class NamedFiles:
-    """Some of the files of an `Ephemeris`, which another process can be told."""
+    """Some of the files of an `Ephemeris`, which another process can be given."""
 
     files: tuple[str, ...]
     names: Mapping[str, str]
     origin: Optional[str]
     frames: tuple[str, ...]
     sha256: str = ""
-    asked: tuple[Optional[float], Optional[float]] = field(default=(None, None))
+    requested_span: tuple[Optional[float], Optional[float]] = field(default=(None, None))
 
 
 def some_of(files: Files, names: Sequence[str]) -> Any:
@@ -86,7 +86,7 @@ def words_of_request(files: Files, words: Mapping[str, Any]) -> dict[str, Any]:
             f"the places of this text stand on the axes of date, on which frame={made['frame']!r} means nothing: leave "
             "frame= out, and make the sky with axes='ecliptic' for longitudes of the ecliptic of date"
         )
-    for name, second in zip(("start", "end"), files.asked):
+    for name, second in zip(("start", "end"), files.requested_span):
         if made.get(name) is None and second is not None:
             made[name] = _time(second, up=name == "end")
     return made

@@ -3,13 +3,13 @@
 from __future__ import annotations
 
 import os
-from collections.abc import Iterable, Mapping
+from collections.abc import Mapping
 from dataclasses import replace
 from typing import Any, Optional
 
 from ..reports.calendar import DAY
 from . import ascii_de, binary_de, spk_text, writing
-from .cache import Kept, kept, key_of
+from .cache import Kept, Made, kept, key_of
 from .fitting import FitError, errors_to_keep
 from .sources import Form, SourceFile, WrongSource, source_files
 from .spk_text import Bodies
@@ -17,7 +17,6 @@ from .sums import sha256_of
 from .text import EphemerisText, span_text
 from .versions import versions
 
-Made = tuple[Iterable[bytes], dict[str, Any]]
 # A number that is changed where the same sources give another text.
 VERSION = 1
 
@@ -85,14 +84,15 @@ def _of_binary(files: list[SourceFile], start: Optional[float], end: Optional[fl
     text = replace(text, titles=(*text.titles, *source_titles(files, text.start, text.end)))
     words = [word for word in text.columns if word != "moon" or "emb" in text.columns]
     earth = ["earth"] if {"emb", "moon"} <= set(words) else []
-    return writing.files(text), _about(text, [start, end], {word: word for word in (*words, *earth, "ssb")}, {})
+    about = _about(text, [start, end], {word: word for word in (*words, *earth, "ssb")}, {})
+    return Made(writing.files(text), about)
 
 
 def _of_kernels(files: list[SourceFile], start: Optional[float], end: Optional[float], bodies: Bodies) -> Made:
     """The text of SPK kernels, and what is known of it."""
     found = spk_text.read(files, start, end, MARGIN, bodies)
     text = replace(found.text, titles=(*source_titles(files, found.text.start, found.text.end), *found.text.titles))
-    return writing.files(text), _about(text, [start, end], found.names, found.errors)
+    return Made(writing.files(text), _about(text, [start, end], found.names, found.errors))
 
 
 def _about(
@@ -133,8 +133,8 @@ def _of_ascii(files: list[SourceFile], start: Optional[float], end: Optional[flo
         return Kept("", names, {**about, "titles": list(whole.titles), "sha256": sha256, "sizes": []})
     titles = (*whole.titles, *source_titles(files, part.start, part.end))
 
-    def make() -> tuple[Any, dict[str, Any]]:
-        return part.files(titles[len(whole.titles) :]), {**about, "titles": list(titles)}
+    def make() -> Made:
+        return Made(part.files(titles[len(whole.titles) :]), {**about, "titles": list(titles)})
 
     sums = sorted((file.sha256, file.last_name) for file in files)
     return kept(key_of([*_versions(files), sums, part.start, part.end]), make, cache)

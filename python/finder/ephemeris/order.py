@@ -1,7 +1,7 @@
 """Files in the order of their blocks, as the program wants them: it passes over blocks that it meets too late.
 
 The program reads files in the order of their names, and passes over a block that ends no later than the last one that
-it accepted (`docs/FORMATS.md`, "Blocks"). So files in a wrong order would lose their early blocks, and the events in
+it accepted (`docs/guide/formats.md`, "Blocks"). So files in a wrong order would lose their early blocks, and the events in
 them, without a word. Here the dates of all blocks are read first. It needs no numpy.
 """
 
@@ -140,7 +140,7 @@ def _content(name: str, *of_file: int) -> Content:
 
 
 def _days(text: bytes) -> Days:
-    """The dates of a block, by the text after its first line: a ValueError where there are none."""
+    """The dates of a block, by the text after its first line: a ValueError if there are none."""
     first, last = (float(word.translate(bytes.maketrans(b"Dd", b"EE"))) for word in text.split()[:2])
     return Days(first, last)
 

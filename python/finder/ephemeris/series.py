@@ -12,6 +12,9 @@ from .. import spans
 from ..public import public
 from ..searches.words import one_of
 from ..seen.vectors import Floats, floats, many
+from . import writing
+from .cache import numbers_of
+from .chebyshev import columns_at, sums
 from .files import number_of, read, seconds_of
 from .names import Files
 
@@ -19,17 +22,6 @@ COLUMNS = "mercury venus emb mars jupiter saturn uranus neptune pluto moon sun".
 BODIES = (*COLUMNS, "earth", "ssb")
 # The obliquity of the ecliptic of J2000 is 84381.448 arc seconds.
 OBLIQUITY = np.radians(84_381.448 / 3_600)
-
-
-def _sums(series: Floats, at: Floats) -> Floats:
-    """Sums of Chebyshev series, each at its place from -1 to 1, by Clenshaw's recurrence."""
-    if len(series) == 1:
-        return floats(series[0] + 0 * at)
-    twice = 2 * at
-    last, made = np.zeros_like(series[0]), series[-1]
-    for row in series[-2:0:-1]:
-        last, made = made, row - last + twice * made
-    return floats(series[0] - last + at * made)
 
 
 @public
@@ -53,14 +45,16 @@ class Series:
     end: float
 
     def __init__(self, files: Files, start: float = -math.inf, end: float = math.inf) -> None:
-        contents = read(files, start, end)
+        numbers = numbers_of(files)
+        contents = read(files, start, end) if numbers is None else writing.contents(numbers, start, end)
         self._read_header(contents.header)
         self._blocks = contents.blocks
         self._length = (self._blocks[0, 1] - self._blocks[0, 0]) * spans.DAY
         self.start = seconds_of(self._blocks[0, 0])
         self.end = seconds_of(self._blocks[-1, 1])
         self.files_start, self.files_end = contents.start, contents.end
-        self._tables: dict[str, tuple[Floats, Floats]] = {}
+        self._tables: dict[str, Floats] = {}
+        self._rates: dict[str, Floats] = {}
 
     def _read_header(self, words: list[bytes]) -> None:
         """Keeps the columns of a header, and the ratio of the masses of Earth and Moon."""
@@ -76,17 +70,22 @@ class Series:
         #: The number of JPL's series, as 405, or None where the header has none.
         self.number = round(number_of(values[names.index(b"DENUM")].decode())) if b"DENUM" in names else None
 
-    def _table(self, name: str) -> tuple[Floats, Floats]:
-        """The series of a column, and those of its rates in km/s: by coefficient, axis and granule."""
+    def _table(self, name: str) -> Floats:
+        """The series of a column: by coefficient, axis and granule."""
         if name not in self._tables:
             start, coefficients, granules = self._columns[:, COLUMNS.index(name)]
             if coefficients == 0:
                 raise ValueError(f"the files have no column of {name}")
             rows = self._blocks[:, start - 1 : start - 1 + 3 * coefficients * granules]
-            table = rows.reshape(-1, 3, coefficients).transpose(2, 1, 0)
-            rates = chebder(table) * (2 * granules / self._length)  # type: ignore[no-untyped-call]
-            self._tables[name] = np.ascontiguousarray(table), np.ascontiguousarray(rates)
+            self._tables[name] = np.ascontiguousarray(rows.reshape(-1, 3, coefficients).transpose(2, 1, 0))
         return self._tables[name]
+
+    def _table_of_rates(self, name: str) -> Floats:
+        """The series of the rates of a column in km/s."""
+        if name not in self._rates:
+            rates = chebder(self._table(name))  # type: ignore[no-untyped-call]
+            self._rates[name] = np.ascontiguousarray(rates * (2 * self.granules(name) / self._length))
+        return self._rates[name]
 
     @property
     def block(self) -> float:
@@ -99,17 +98,22 @@ class Series:
 
     def coefficients(self, name: str) -> Floats:
         """The coefficients of a column in km: by granule, axis and coefficient."""
-        return floats(self._table(name)[0].transpose(2, 1, 0))
+        return floats(self._table(name).transpose(2, 1, 0))
 
     def _column(self, name: str, times: Floats, rates: bool) -> Floats:
         """Positions of a column in km, an array of three rows; with rates, in km/s, six rows. NaN outside."""
-        granules = self._columns[2, COLUMNS.index(name)]
+        table, granules = self._table(name), self.granules(name)
         inside = (times >= self.start) & (times <= self.end)
-        place = np.where(inside, (times - self.start) / self._length * granules, np.nan)
-        granule = np.clip(np.where(inside, place, 0).astype(int), 0, len(self._blocks) * granules - 1)
+        place = np.where(inside, (times - self.start) / self._length * granules, 0.0)
+        # (the end of the files is in the last granule)
+        granule = np.minimum(place.astype(int), len(self._blocks) * granules - 1)
         at = 2 * (place - granule) - 1
-        made = [_sums(table[:, :, granule], at) for table in self._table(name)[: 1 + rates]]
-        return made[0] if not rates else floats(np.concatenate(made))
+        made = sums(columns_at(table, granule), at)
+        if rates:
+            made = np.concatenate([made, sums(columns_at(self._table_of_rates(name), granule), at)])
+        if not inside.all():
+            made[:, ~inside] = np.nan
+        return floats(made)
 
     def body(self, name: str, times: Any, rates: bool = False) -> Floats:
         """Places of a body from the barycentre of the solar system, on the axes of the file, at seconds since J2000
@@ -123,6 +127,12 @@ class Series:
             earth = self._column("emb", at, rates) - moon / (1 + self._mass_ratio)
             return earth + moon if name == "moon" else earth
         return self._column(name, at, rates)
+
+    def from_origin(self, name: str, times: Any) -> Floats:
+        """Places of a column's own in km, at seconds since J2000 (TDB): of the text of a sky those from the observer, who
+        is at its origin, the Moon's among them. NaN outside."""
+        at = many(times)
+        return np.zeros((3, len(at))) if name in ("earth", "ssb") else self._column(name, at, False)
 
     def seen(self, target: str, observer: str, frame: str, times: Any) -> Floats:
         """Geometric places of a body from an observer in km, on the axes `eq` or `ecl` of J2000, at seconds since J2000

@@ -15,8 +15,8 @@ from ..seen.vectors import Floats
 from ..sky.earth_rotation import EarthRotation, earth_rotation
 from ..sky.place import Place, PlaceLike
 from . import writing
-from .apparent_places import ZENITH_DISTANCE, ApparentSky, Model
-from .cache import kept, key_of
+from .apparent_places import ZENITH_DISTANCE, ApparentSky, Model, SharedMoments
+from .cache import Made, kept, key_of
 from .chebyshev import Grid
 from .columns import columns_of, words_of
 from .ephemeris import Ephemeris, seconds_of_time
@@ -55,7 +55,7 @@ TIMES_NEAR_SUN = 96
 # A number that is changed where the same sources give another text.
 VERSION = 1
 PACKAGES = ("numpy", "pyerfa")
-Made = TypeVar("Made", bound="SkyText")
+Sky = TypeVar("Sky", bound="SkyText")
 
 
 @public
@@ -95,7 +95,7 @@ class SkyText(Ephemeris):
 
     @classmethod
     def of(
-        cls: type[Made],
+        cls: type[Sky],
         source: Ephemeris,
         place: Optional[PlaceLike] = None,
         start: Optional[Time] = None,
@@ -106,13 +106,15 @@ class SkyText(Ephemeris):
         bodies: Optional[Iterable[str]] = None,
         stars: Optional[Mapping[str, Any]] = None,
         cache: bool = True,
-    ) -> Made:
-        """The sky over a source, with the words of `Ephemeris.sky`."""
+        moments: Optional[SharedMoments] = None,
+    ) -> Sky:
+        """The sky over a source, with the words of `Ephemeris.sky`. `moments` are those that skies of this span and
+        these bodies from the Earth's centre have in common."""
         spot = None if place is None else Place.of(place)
         rotation = None if spot is None else earth_rotation(delta_t=delta_t)
         seen = {name: star_of(star, name) for name, star in (stars or {}).items()}
-        asked = _grid(source, seconds_of_time(start), seconds_of_time(end), CENTRE_DAYS if spot is None else ())
-        making = _Making(source, spot, rotation, model, _bodies(source, bodies, spot, seen), seen, asked)
+        requested = _grid(source, seconds_of_time(start), seconds_of_time(end), CENTRE_DAYS if spot is None else ())
+        making = _Making(source, spot, rotation, model, _bodies(source, bodies, spot, seen), seen, requested, moments)
         return cls(kept(making.key(), making.make, cache))
 
     @property
@@ -165,13 +167,13 @@ def _bodies(
     return made
 
 
-def _grid(source: Ephemeris, start: Optional[float], end: Optional[float], days: tuple[int, ...]) -> Asked:
+def _grid(source: Ephemeris, start: Optional[float], end: Optional[float], days: tuple[int, ...]) -> Requested:
     """The span of a sky, which is that asked for, or that of which the source has all light; and granules about it, of
     the first of some numbers of days for which the source reaches. They begin at a midnight, as those of JPL do."""
     low, high = source.start + LIGHT_WAY, source.end
-    asked_start, asked_end = source.asked
-    first = start if start is not None else asked_start if asked_start is not None else _midnight(low + DAY - 1)
-    last = end if end is not None else asked_end if asked_end is not None else _midnight(high)
+    requested_start, requested_end = source.requested_span
+    first = start if start is not None else requested_start if requested_start is not None else _midnight(low + DAY - 1)
+    last = end if end is not None else requested_end if requested_end is not None else _midnight(high)
     begin = _midnight(first) if _midnight(first) >= low else int(np.floor(first / DATE_STEP)) * DATE_STEP
     count = int(np.ceil((last - begin) / DAY))
     if count < 1:
@@ -184,7 +186,7 @@ def _grid(source: Ephemeris, start: Optional[float], end: Optional[float], days:
             "open more of the source"
         )
     size = next(each for each in (*days, 1) if begin + -(-count // each) * each * DAY <= high)
-    return Asked(first, last, Grid(begin, float(size * DAY), -(-count // size)))
+    return Requested(first, last, Grid(begin, float(size * DAY), -(-count // size)))
 
 
 def _midnight(seconds: float) -> int:
@@ -193,7 +195,7 @@ def _midnight(seconds: float) -> int:
 
 
 @dataclass(frozen=True)
-class Asked:
+class Requested:
     """The span that is asked for, in seconds since J2000 (TDB), and the granules about it."""
 
     start: float
@@ -211,12 +213,13 @@ class _Making:
     model: Model
     bodies: list[str]
     stars: Mapping[str, Star]
-    asked: Asked
+    requested: Requested
+    moments: Optional[SharedMoments] = None
 
     @property
     def grid(self) -> Grid:
         """The granules."""
-        return self.asked.grid
+        return self.requested.grid
 
     def key(self) -> str:
         """The key of the text: by the source, the place, how the Earth turns, the model, the bodies and the
@@ -225,7 +228,7 @@ class _Making:
         stars = {name: asdict(star) for name, star in self.stars.items()}
         facts = [self.source.sha256, self._place(), self._sentence(), asdict(self.model), self.bodies, stars]
         distances = [ZENITH_DISTANCE, STAR_DISTANCE]
-        return key_of(["sky", VERSION, versions(*PACKAGES), *facts, turns, asdict(self.asked), distances])
+        return key_of(["sky", VERSION, versions(*PACKAGES), *facts, turns, asdict(self.requested), distances])
 
     def _place(self) -> Optional[list[float]]:
         return None if self.place is None else [self.place.latitude, self.place.longitude, self.place.metres]
@@ -233,18 +236,13 @@ class _Making:
     def _sentence(self) -> str:
         return "" if self.rotation is None else self.rotation.sentence(self.grid.start, self.grid.end)
 
-    def make(self) -> tuple[Iterable[bytes], dict[str, Any]]:
+    def make(self) -> Made:
         """The files of the text, and what is known of it."""
         series = Series(self.source, self.grid.start - LIGHT_WAY, self.grid.end)
-        sky = ApparentSky(series, self.place, self.rotation, self.model)
-        directions = {name: star.direction for name, star in self.stars.items()}
-
-        def motions(times: Floats) -> dict[str, Floats]:
-            return sky.places(times, self.bodies, directions)
-
+        sky = ApparentSky(series, self.place, self.rotation, self.model, self.moments)
         names = [*self.bodies, *self.stars]
-        fits = fitted(motions, self.grid, COEFFICIENTS, dict.fromkeys(names, FITTED))
-        edges, errors = self._errors(sky, motions, fits, directions)
+        fits = fitted(self._motions(sky, names), self.grid, COEFFICIENTS, dict.fromkeys(names, FITTED))
+        edges, errors = self._errors(sky, fits)
         words = words_of(names)
         text = EphemerisText(
             self.grid.start,
@@ -253,7 +251,14 @@ class _Making:
             columns_of({words[name]: (fit, 1) for name, fit in fits.items()}),
             titles=self._titles(words, errors, edges),
         )
-        return writing.files(text), self._about(text, words, errors, edges)
+        return Made(writing.files(text), self._about(text, words, errors, edges), text)
+
+    def _motions(self, sky: ApparentSky, names: Iterable[str]) -> Motions:
+        """The motions of some of the bodies and stars."""
+        wanted = set(names)
+        bodies = [body for body in self.bodies if body in wanted]
+        stars = {name: star.direction for name, star in self.stars.items() if name in wanted}
+        return lambda times: sky.places(times, bodies, stars)
 
     def _about(
         self, text: EphemerisText, words: Mapping[str, str], errors: Mapping[str, FitError], edges: list[Edge]
@@ -263,7 +268,7 @@ class _Making:
             "name": "sky",
             "start": text.start,
             "end": text.end,
-            "asked": [self.asked.start, self.asked.end],
+            "asked": [self.requested.start, self.requested.end],
             "names": {**words, "earth": "earth", "ssb": "ssb"},
             "errors": errors_to_keep(errors),
             "titles": list(text.titles),
@@ -277,30 +282,28 @@ class _Making:
             },
         }
 
-    def _errors(
-        self, sky: ApparentSky, motions: Motions, fits: Mapping[str, Floats], stars: Mapping[str, Any]
-    ) -> tuple[list[Edge], dict[str, FitError]]:
+    def _errors(self, sky: ApparentSky, fits: Mapping[str, Floats]) -> tuple[list[Edge], dict[str, FitError]]:
         """The edges, and the errors outside of them: a series that is worse elsewhere is refused."""
         granules, times = times_of_check(self.grid)
         edges: list[Edge] = []
         errors = {}
-        for name, each in compared(motions, self.grid, fits, granules, times).items():
-            near = _near_sun(sky, name, stars, self.grid)
+        for name, each in compared(self._motions(sky, fits), self.grid, fits, granules, times).items():
+            near = _near_sun(sky, name, self.stars, self.grid)
             advice = "the source has a jump there, or is none of the solar system"
             refuse(name, each.at(~np.isin(granules, near)), TOLERANCE, advice)
-            found, inside = self._edges(motions, fits, name, near)
+            found, inside = self._edges(sky, name, fits[name], near)
             edges += found
             errors[name] = each.error(~np.isin(granules, inside))
         return edges, errors
 
-    def _edges(self, motions: Any, fits: Mapping[str, Floats], name: str, near: Any) -> tuple[list[Edge], list[int]]:
+    def _edges(self, sky: ApparentSky, name: str, fit: Floats, near: Any) -> tuple[list[Edge], list[int]]:
         """The edges of a body, of the granules in which it is near the Sun; and the granules that they are in."""
         if not len(near):
             return [], []
         granules = np.repeat(near, TIMES_NEAR_SUN)
         part = np.tile((np.arange(TIMES_NEAR_SUN) + 0.5) / TIMES_NEAR_SUN, len(near))
         times = self.grid.starts[granules] + self.grid.length * part
-        off = compared(motions, self.grid, {name: fits[name]}, granules, times)[name]
+        off = compared(self._motions(sky, [name]), self.grid, {name: fit}, granules, times)[name]
         angles = (off.off / off.far * ARC_SECONDS).reshape(len(near), -1).max(axis=1)
         wrong = near[angles > TOLERANCE.arcseconds]
         made = []
@@ -331,11 +334,11 @@ class _Making:
         return tuple(lines)
 
 
-def _near_sun(sky: ApparentSky, name: str, stars: Mapping[str, Any], grid: Grid) -> Any:
+def _near_sun(sky: ApparentSky, name: str, stars: Mapping[str, Star], grid: Grid) -> Any:
     """The granules in which a body or a star beyond the Sun comes near it."""
     if name in ("sun", *DIRECTIONS):
         return np.empty(0, int)
     times = grid.start + grid.length / 4 * np.arange(4 * grid.count + 1)
-    angles = sky.elongation(times, name, stars.get(name))
+    angles = sky.elongation(times, name, stars[name].direction if name in stars else None)
     least = np.minimum.reduceat(angles[:-1], np.arange(0, 4 * grid.count, 4))
     return np.flatnonzero(np.minimum(least, angles[4::4]) < NEAR_SUN)

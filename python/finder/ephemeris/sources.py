@@ -21,7 +21,7 @@ from ..public import public
 from .cache import cache_folder
 from .sums import sha256_of_source
 
-# What is told of a file by its first bytes.
+# What the first bytes of a file say of it.
 HEADER = re.compile(rb"[ \t]*KSIZE=")
 BLOCK_FIRST = re.compile(rb"[ \t\r\n]*[0-9]+[ \t]+[0-9]+[ \t]*\r?\n[ \t]*[0-9.]+[DdEe][+-]?[0-9]+[ \t]")
 COMPRESSED: dict[bytes, Any] = {b"\x1f\x8b": gzip, b"BZh": bz2, b"\xfd7zXZ\x00": lzma}
@@ -29,7 +29,7 @@ SPK_IDS = (b"DAF/SPK ", b"NAIF/DAF")
 # The three dates of a binary DE file, after three titles of 84 letters and 400 names of six.
 DATES_AT = 3 * 84 + 400 * 6
 LOOKED_AT = DATES_AT + 24
-# The days of a block, by which a date is told from eight bytes in the other order.
+# The days of a block, by which a date differs from eight bytes in the other order.
 SHORTEST_BLOCK, LONGEST_BLOCK = 1e-5, 64.0
 
 

@@ -10,10 +10,9 @@ import numpy as np
 from ..public import public
 from ..reports.calendar import DAY
 from ..seen.apparent import erfa_package
-from ..seen.vectors import Floats, floats
+from ..seen.vectors import AU, Floats, floats
 from .order import J2000_DATE
 
-AU = 149_597_870.7
 JULIAN_YEAR = 365.25 * DAY
 MILLIARCSECONDS = 3_600_000.0
 # How far a star is put in km: only its direction means something.

@@ -7,11 +7,12 @@ import hashlib
 import json
 import os
 import re
-import tempfile
 import time
 from collections.abc import Iterable
 from pathlib import Path
 from typing import Any
+
+from ..process.whole_files import write_whole
 
 A_READ = 1 << 20
 # Files of fewer bytes are summed each time: that takes less than a tenth of a second.
@@ -55,7 +56,5 @@ def sha256_of_source(name: str, data: Any, home: Path) -> str:
         # (where it cannot be kept it is summed again)
         with contextlib.suppress(OSError):
             known.parent.mkdir(parents=True, exist_ok=True)
-            with tempfile.NamedTemporaryFile("w", dir=known.parent, delete=False) as file:
-                file.write(made)
-            os.replace(file.name, known)
+            write_whole(known, made.encode("ascii"))
     return made

@@ -15,7 +15,7 @@ from ..seen.vectors import Floats
 COLUMNS = ("mercury", "venus", "emb", "mars", "jupiter", "saturn", "uranus", "neptune", "pluto", "moon", "sun")
 OTHER_COLUMNS = 2
 AXES = 3
-# The limits of the format (`docs/FORMATS.md`). The dates of a block are decimals, so that its ends are multiples of 27
+# The limits of the format (`docs/guide/formats.md`). The dates of a block are decimals, so that its ends are multiples of 27
 # seconds from J2000: 27 / 86,400 = 0.0003125.
 MAX_COEFFICIENTS = 32
 MAX_NUMBERS = 4_096

@@ -2,7 +2,11 @@
 
 from __future__ import annotations
 
-import importlib.metadata
+import functools
+import sys
+
+# The modules that say the version of a package themselves: reading what was installed takes some milliseconds.
+MODULES = {"numpy": "numpy", "pyerfa": "erfa"}
 
 
 def versions(*packages: str) -> str:
@@ -16,7 +20,13 @@ def versions(*packages: str) -> str:
     return ", ".join([f"finder {__version__}", *(f"{package} {_version(package)}" for package in packages)])
 
 
+@functools.lru_cache(maxsize=None)
 def _version(package: str) -> str:
+    known = getattr(sys.modules.get(MODULES.get(package, "")), "__version__", None)
+    if known is not None:
+        return str(known)
+    import importlib.metadata
+
     try:
         return importlib.metadata.version(package)
     except importlib.metadata.PackageNotFoundError:

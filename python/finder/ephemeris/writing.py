@@ -2,6 +2,7 @@
 
 from __future__ import annotations
 
+import functools
 import textwrap
 from collections.abc import Iterator
 from fractions import Fraction
@@ -11,12 +12,15 @@ import numpy.typing as npt
 
 from ..reports.calendar import DAY
 from ..seen.vectors import Floats
+from .files import Contents, nothing_of, seconds_of
 from .text import COLUMNS, DATE_STEP, OTHER_COLUMNS, EphemerisText
 
 Bytes = npt.NDArray[np.uint8]
 # A number in JPL's form: a blank, a blank or a minus, `0.`, 18 digits, `D`, a sign and two digits. Three are in a line.
 FIELD = 26
 A_LINE = 3
+# The bytes of the first line of a block: its number, and how many numbers it has.
+HEAD = 13
 # The length of a number as `% .17E` writes it, and how many are written at once.
 PRINTED = 24
 AT_ONCE = 3_000
@@ -31,7 +35,7 @@ CONSTANT = 8
 
 def fields(values: Floats) -> Bytes:
     """Numbers in JPL's form, a row of 26 bytes for each: 18 digits, of which 17 tell a double from each other one."""
-    flat = np.where(np.abs(values) < SMALLEST, 0.0, values).ravel()
+    flat = _written(values).ravel()
     pieces = [flat[at : at + AT_ONCE].tolist() for at in range(0, len(flat), AT_ONCE)]
     text = "".join([("% .17E" * len(piece)) % tuple(piece) for piece in pieces])
     printed = np.frombuffer(text.encode("ascii"), np.uint8).reshape(-1, PRINTED)
@@ -48,6 +52,15 @@ def fields(values: Floats) -> Bytes:
     made[:, 24] = np.abs(exponent) // 10 + 48
     made[:, 25] = np.abs(exponent) % 10 + 48
     return made
+
+
+def _written(values: Floats) -> Floats:
+    """The numbers that are written: smaller ones are 0."""
+    return np.where(np.abs(values) < SMALLEST, 0.0, values)
+
+
+# A line that is not full ends with zeros.
+ZERO = fields(np.zeros(1))
 
 
 def _units_of_date(seconds: int) -> int:
@@ -70,19 +83,26 @@ def _date_fields(seconds: list[int]) -> Bytes:
 def header(text: EphemerisText) -> bytes:
     """The header of a text: the groups that the format has, in its order."""
     days = Fraction(text.block, DAY)
-    constants = {**text.constants, "EMRAT": text.mass_ratio}
-    names = "".join(f"  {name[:6]:6}" for name in constants)
-    values = fields(np.array(list(constants.values()))).tobytes().decode("ascii")
+    names, values = _constants((*text.constants.items(), ("EMRAT", text.mass_ratio)))
     groups = {
         "1010": "\n".join(title_lines(text.titles)),
         "1030": f"  {date_text(text.start)}  {date_text(text.end)}  {float(days)!r}",
-        "1040": f"{len(constants):6}\n" + _wrapped(names, 10 * CONSTANT),
-        "1041": f"{len(constants):6}\n" + _wrapped(values, A_LINE * FIELD),
+        "1040": names,
+        "1041": values,
         "1050": _columns(text),
     }
     rows = [f"KSIZE={2 * text.numbers:6}    NCOEFF={text.numbers:6}"]
     rows += [f"GROUP   {number}\n\n{body}" for number, body in groups.items()]
     return ("\n\n".join([*rows, "GROUP   1070"]) + "\n\n").encode("ascii")
+
+
+@functools.lru_cache(maxsize=16)
+def _constants(constants: tuple[tuple[str, float], ...]) -> tuple[str, str]:
+    """The groups of the names and of the values of constants."""
+    names = "".join(f"  {name[:6]:6}" for name, _ in constants)
+    values = fields(np.array([value for _, value in constants])).tobytes().decode("ascii")
+    count = f"{len(constants):6}\n"
+    return count + _wrapped(names, 10 * CONSTANT), count + _wrapped(values, A_LINE * FIELD)
 
 
 def title_lines(titles: tuple[str, ...]) -> list[str]:
@@ -113,22 +133,61 @@ def _columns(text: EphemerisText) -> str:
 
 def blocks(text: EphemerisText, first: int, last: int) -> bytes:
     """The lines of blocks from one number up to another, counted from 0."""
-    count = last - first
+    numbers = _numbers(text, first, last)
+    dates = _date_fields([text.start + text.block * number for number in range(first, last + 1)])[:, None]
+    return lines_of(np.concatenate([dates[:-1], dates[1:], fields(numbers).reshape(*numbers.shape, FIELD)], axis=1), first)
+
+
+def _numbers(text: EphemerisText, first: int, last: int) -> Floats:
+    """The coefficients of blocks, a row for each."""
     parts = []
     for name in COLUMNS:
         if name in text.columns:
             column = text.columns[name]
-            parts.append(column.coefficients[first * column.granules : last * column.granules].reshape(count, -1))
-    rows = -(-text.numbers // A_LINE)
-    zeros = np.zeros((count, rows * A_LINE - text.numbers))
-    numbers = fields(np.concatenate([*parts, zeros], axis=1)).reshape(count, -1)
-    edges = [text.start + text.block * number for number in range(first, last + 1)]
-    dates = _date_fields(edges)
-    lines = np.concatenate([dates[:-1], dates[1:], numbers], axis=1).reshape(count, rows, A_LINE * FIELD)
-    feeds = np.full((count, rows, 1), ord("\n"), np.uint8)
-    heads = np.frombuffer("".join(f"{n + 1:6}{text.numbers:6}\n" for n in range(first, last)).encode("ascii"), np.uint8)
-    body = np.concatenate([lines, feeds], axis=2).reshape(count, -1)
-    return bytes(np.concatenate([heads.reshape(count, -1), body], axis=1))
+            parts.append(column.coefficients[first * column.granules : last * column.granules].reshape(last - first, -1))
+    return np.concatenate(parts, axis=1)
+
+
+def lines_of(numbers: Bytes, first: int) -> bytes:
+    """The lines of blocks that begin with one number, counted from 0, of their dates and coefficients as `fields` writes
+    them: by block, number and byte."""
+    count, total = numbers.shape[:2]
+    rows = -(-total // A_LINE)
+    filled = np.empty((count, rows * A_LINE, FIELD), np.uint8)
+    filled[:, :total] = numbers
+    filled[:, total:] = ZERO
+    made = np.empty((count, length_of_block(total)), np.uint8)
+    heads = "".join(f"{number + 1:6}{total:6}\n" for number in range(first, first + count)).encode("ascii")
+    made[:, :HEAD] = np.frombuffer(heads, np.uint8).reshape(count, HEAD)
+    lines = made[:, HEAD:].reshape(count, rows, A_LINE * FIELD + 1)
+    lines[:, :, :-1] = filled.reshape(count, rows, A_LINE * FIELD)
+    lines[:, :, -1] = ord("\n")
+    return made.tobytes()
+
+
+def length_of_block(numbers: int) -> int:
+    """The bytes of the lines of a block that has so many numbers, its dates among them."""
+    return HEAD + -(-numbers // A_LINE) * (A_LINE * FIELD + 1)
+
+
+def fields_of(lines: Bytes, numbers: int) -> Bytes:
+    """The numbers of blocks as `fields` writes them, by block, number and byte, of the lines of each block."""
+    rows = -(-numbers // A_LINE)
+    feeds = lines[:, HEAD:].reshape(len(lines), rows, A_LINE * FIELD + 1)
+    return feeds[:, :, :-1].reshape(len(lines), rows * A_LINE, FIELD)
+
+
+def contents(text: EphemerisText, start: float, end: float) -> Contents:
+    """What `files.read` reads of the files of a text, bit for bit: 18 digits tell a double from each other one."""
+    edges = [text.start + text.block * number for number in range(text.blocks + 1)]
+    dates = np.array([_units_of_date(edge) / 10**7 for edge in edges])
+    low, high = seconds_of(dates[0]), seconds_of(dates[-1])
+    kept = np.flatnonzero((seconds_of(dates[1:]) > start) & (seconds_of(dates[:-1]) < end))
+    if not len(kept):
+        raise nothing_of(low, high, start, end)
+    first, last = int(kept[0]), int(kept[-1]) + 1
+    rows = [dates[first:last, None], dates[first + 1 : last + 1, None], _written(_numbers(text, first, last))]
+    return Contents(header(text).split(), np.concatenate(rows, axis=1), low, high)
 
 
 def files(text: EphemerisText) -> Iterator[bytes]:

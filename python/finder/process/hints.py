@@ -15,10 +15,10 @@ SPAN = re.compile(r"finder: span: (-?[0-9]+) (-?[0-9]+) not within (-?[0-9]+) (-
 FIRST_LINE = re.compile(r"finder: file (.*) line [0-9]+: 10 FirstLine", re.DOTALL)
 AGAIN = "the file was changed, or cut off while it was fetched: fetch it again"
 NOT_JPL = "it is no ASCII file of JPL's: a binary or a compressed one, or a page that was saved in its place"
-HEADER: Causes = (AGAIN, "it is of a layout that is not read: docs/FORMATS.md has those that are")
+HEADER: Causes = (AGAIN, "it is of a layout that is not read: docs/guide/formats.md has those that are")
 CERTIFICATE: Causes = ("the certificate was changed, or is of another request: have it made again",)
 MANY = "the span is too long for one search: finder.over_files searches file by file"
-# By the number of a refusal (docs/FORMATS.md).
+# By the number of a refusal (docs/guide/formats.md).
 OF_NUMBER: dict[int, Causes] = {
     4: (NOT_JPL, AGAIN),
     5: (MANY,),
@@ -34,7 +34,7 @@ OF_NUMBER: dict[int, Causes] = {
     32: (AGAIN,),
     33: ("the files are not in order of time", "a file between two of them is missing", "they are of two series"),
     34: (AGAIN,),
-    35: (AGAIN, "it is of a layout that is not read: docs/FORMATS.md has those that are"),
+    35: (AGAIN, "it is of a layout that is not read: docs/guide/formats.md has those that are"),
     36: ("the last file is cut off: fetch it again", "the file in which its last block goes on is not named"),
     37: ("the header's file alone is named: name files with blocks after it",),
     38: (MANY,),
@@ -149,7 +149,7 @@ def causes_of(status: int, number: Optional[int], detail: Optional[str]) -> Caus
         return OF_NUMBER[number]
     if status < 0:
         return ENDED
-    return OF_STATUS.get(status, ("docs/FORMATS.md says what each status and each number means",))
+    return OF_STATUS.get(status, ("docs/guide/formats.md says what each status and each number means",))
 
 
 def told(causes: Causes) -> str:

@@ -9,6 +9,7 @@ import re
 import shlex
 import signal
 import subprocess
+import sys
 import threading
 import time
 from collections.abc import Sequence
@@ -18,8 +19,9 @@ from typing import Optional, Union
 from .. import spans
 from ..public import public
 from ..searches.words import seconds
+from .guard import Guarded, Outcome, end_where_abandoned
 from .hints import TOO_LONG, causes_of, causes_seen, told
-from .watch import watch
+from .messages import shown, shown_lines
 
 # What each run of the program is told to: its words, its status and its time.
 LOG = logging.getLogger("finder")
@@ -53,11 +55,12 @@ class FinderError(Exception):
         return type(self), (self.status, self.line, self.words)
 
     def __str__(self) -> str:
-        return f"{self.line or f'the command ended with status {self.status}'}\nlikely: {self.hint}"
+        line = shown_lines(self.line) or f"the command ended with status {self.status}"
+        return f"{line}\nlikely: {shown_lines(self.hint)}"
 
     @property
     def number(self) -> Optional[int]:
-        """The number of what was refused (`docs/USAGE.md`, `docs/FORMATS.md`), where the line has one."""
+        """The number of what was refused (`docs/guide/usage.md`, `docs/guide/formats.md`), where the line has one."""
         found = NUMBERED.search(self.line)
         return int(found[1]) if found else None
 
@@ -254,20 +257,11 @@ OF_STATUS: dict[int, type[FinderError]] = {
 }
 
 
-def _end(process: subprocess.Popen[bytes]) -> None:
-    """Ends a process, and those that it started: the launcher may be building the program."""
-    if process.poll() is None:
-        try:
-            os.killpg(process.pid, signal.SIGKILL)
-        except ProcessLookupError:
-            pass
-
-
 @dataclass
 class _Begun:
     """The processes of a run that have begun; once it is over, none begins any more."""
 
-    processes: list[subprocess.Popen[bytes]] = field(default_factory=list)
+    processes: list[Guarded] = field(default_factory=list)
     is_over: bool = False
 
 
@@ -276,31 +270,20 @@ class Runs:
 
     def __init__(self, program: Union[str, os.PathLike[str], None], timeout: Optional[float]) -> None:
         if timeout is not None:
-            seconds("timeout", timeout)
+            _seconds_of_clock(timeout)
         self._program = spans.find_program(program)
         self._timeout = timeout
         self._deadline = None if timeout is None else time.monotonic() + timeout
-        self._live: set[subprocess.Popen[bytes]] = set()
+        self._live: set[Guarded] = set()
         self._lock = threading.Lock()
         self._stopped = False
 
     def _start(self, words: Sequence[Union[str, bytes]], begun: _Begun) -> None:
-        """Starts the command, in a group of its own, unless the call is over, and adds it to those that have begun. It
-        ends with this process, however that one ends."""
+        """Starts the command, unless the call is over, and adds it to those that have begun."""
         with self._lock:
             if self._stopped or begun.is_over:
                 raise Interrupted(-signal.SIGKILL, "finder: the call is over")
-            try:
-                process = subprocess.Popen(
-                    [self._program, *words],
-                    stdin=subprocess.DEVNULL,
-                    stdout=subprocess.PIPE,
-                    stderr=subprocess.PIPE,
-                    start_new_session=True,
-                    env=watch.environment(),
-                )
-            except OSError as error:
-                raise spans.NoProgram(error.errno, f"{self._program} cannot be run: {error.strerror}") from error
+            process = Guarded(self._program, words)
             self._live.add(process)
             begun.processes.append(process)
 
@@ -311,37 +294,32 @@ class Runs:
             # (an interrupt comes to the main thread alone, and so not between a process and its record)
             with concurrent.futures.ThreadPoolExecutor(1) as pool:
                 pool.submit(self._start, words, begun).result()
-            out, err = self._output(begun.processes[0], began, budget)
+            ended = self._outcome(begun.processes[0], began, budget)
         finally:
             # (where the interrupt comes while the thread starts, nothing has waited for what that one starts)
             with self._lock:
                 begun.is_over = True
             for process in begun.processes:
                 self._finish(process)
-        status = begun.processes[0].returncode
-        LOG.info("%s: status %d, %.3f seconds", shlex.join(map(os.fsdecode, words)), status, time.monotonic() - began)
-        return _answer(status, out, err, [os.fsdecode(word) for word in words])
+        told = shown(shlex.join(map(os.fsdecode, words)))
+        LOG.info("%s: status %d, %.3f seconds", told, ended.status, time.monotonic() - began)
+        return _answer(ended, [os.fsdecode(word) for word in words])
 
-    def _output(
-        self, process: subprocess.Popen[bytes], began: float, budget: Optional[float]
-    ) -> tuple[bytes, bytes]:
-        """What the command wrote to both outputs until it ended."""
+    def _outcome(self, process: Guarded, began: float, budget: Optional[float]) -> Outcome:
+        """How the command ended, once it has."""
         while self._deadline is None or time.monotonic() < self._deadline:
             left = WAIT if self._deadline is None else min(WAIT, max(0.0, self._deadline - time.monotonic()))
             try:
-                return process.communicate(timeout=left)
+                return process.wait(left)
             except subprocess.TimeoutExpired:
+                end_where_abandoned()
                 if budget is not None and time.monotonic() > began + budget:
                     raise OverBudget from None
         raise TimedOut(-signal.SIGKILL, f"finder: not done after {self._timeout} seconds")
 
-    def _finish(self, process: subprocess.Popen[bytes]) -> None:
+    def _finish(self, process: Guarded) -> None:
         """Ends a process where it runs still, and waits for its end."""
-        _end(process)
-        process.wait()
-        for stream in (process.stdout, process.stderr):
-            if stream:
-                stream.close()
+        process.close()
         with self._lock:
             self._live.discard(process)
 
@@ -350,25 +328,37 @@ class Runs:
         with self._lock:
             self._stopped = True
             for process in self._live:
-                _end(process)
+                process.end()
 
 
 Program = Union[str, os.PathLike[str], Runs, None]
 
 
-def _answer(status: int, out: bytes, err: bytes, words: Sequence[str]) -> str:
+def _seconds_of_clock(timeout: float) -> None:
+    """Refuses a timeout that is no time, or that no clock holds."""
+    if isinstance(timeout, int) and timeout > sys.float_info.max:
+        raise ValueError("timeout has more seconds than the clock holds: leave it out, to wait without end")
+    seconds("timeout", timeout)
+
+
+def _answer(ended: Outcome, words: Sequence[str]) -> str:
     """What the command printed, or the exception of its status."""
-    if status:
-        line = os.fsdecode(err).removesuffix("\n")
-        if status == 70 or status in (126, 127):
-            raise spans.NoProgram(line or f"status {status}")
-        if status < 0:
-            raise Interrupted(status, line, words)
-        raise OF_STATUS.get(status, FinderError)(status, line, words)
+    if ended.status:
+        line = os.fsdecode(ended.err).removesuffix("\n")
+        if ended.status in (70, 126, 127) or not _is_of_command(line, ended.status):
+            raise spans.NoProgram(shown_lines(line) or f"status {ended.status}")
+        if ended.status < 0:
+            raise Interrupted(ended.status, line, words)
+        raise OF_STATUS.get(ended.status, FinderError)(ended.status, line, words)
     try:
-        return out.decode("ascii")
+        return ended.out.decode("ascii")
     except UnicodeDecodeError:
         raise spans.WrongReport("the command printed what is no report") from None
+
+
+def _is_of_command(line: str, status: int) -> bool:
+    """Whether a status is one that the command itself gave: it writes a line of its own beside it, or could not."""
+    return status not in OF_STATUS or not line or any(each.startswith("finder: ") for each in line.split("\n"))
 
 
 def runs_of(program: Program, timeout: Optional[float]) -> Runs:

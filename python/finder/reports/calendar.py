@@ -2,7 +2,9 @@
 
 from __future__ import annotations
 
+import functools
 import re
+from typing import Optional
 
 from ..public import public
 
@@ -10,12 +12,13 @@ DAY = 86_400
 # The days from 1 March of year 0 to 1 January 2000, and those of 400 years.
 DAYS_TO_2000 = 730_425
 DAYS_OF_400_YEARS = 146_097
-TIME = re.compile(r"([0-9]{4}|-[0-9]{6})-([0-9]{2})-([0-9]{2})T([0-9]{2}):([0-9]{2}):([0-9]{2})(?:\.([0-9]{3}))?")
+DATE = re.compile(r"([0-9]{4}|-[0-9]{6})-([0-9]{2})-([0-9]{2})")
+TIME = re.compile(r"([0-9-]+)T([01][0-9]|2[0-3]):([0-5][0-9]):([0-5][0-9])(?:\.([0-9]{3}))?")
 
 
 @public
 class WrongReport(ValueError):
-    """A text that is no whole report of `finder`.
+    """A text that is no whole report of `finder`; `line_number` is that of the line that is not right, if one is known.
 
     >>> import finder
     >>> try:
@@ -24,6 +27,8 @@ class WrongReport(ValueError):
     ...     print(error)
     the last line is cut off
     """
+
+    line_number: Optional[int] = None
 
 
 def days_of(year: int, month: int, day: int) -> int:
@@ -44,24 +49,34 @@ def calendar_of(days: int) -> tuple[int, int, int]:
     return year + 400 * era + (month <= 2), month, rest - (153 * months + 2) // 5 + 1
 
 
+def date_text(days: int) -> str:
+    """The day as the command prints it that is so many days after 2000-01-01."""
+    year, month, day = calendar_of(days)
+    shown = f"{year:04}" if year >= 0 else f"-{-year:06}"
+    return f"{shown}-{month:02}-{day:02}"
+
+
 def time_text(ticks: int, tick: int = 1) -> str:
     """A time as the command prints it, of its ticks since J2000, of which `tick` are in a second."""
     seconds, part = divmod(ticks, tick)
     days, second = divmod(seconds + DAY // 2, DAY)
-    year, month, day = calendar_of(days)
-    shown = f"{year:04}" if year >= 0 else f"-{-year:06}"
     milliseconds = f".{part:03}" if tick == 1_000 else ""
-    clock = f"{second // 3_600:02}:{second // 60 % 60:02}:{second % 60:02}"
-    return f"{shown}-{month:02}-{day:02}T{clock}{milliseconds}"
+    return f"{date_text(days)}T{second // 3_600:02}:{second // 60 % 60:02}:{second % 60:02}{milliseconds}"
+
+
+@functools.lru_cache(maxsize=4_096)
+def _midnight_of(date: str) -> Optional[int]:
+    """The seconds since J2000 at which a day begins, or None for what the command prints of no day."""
+    found = DATE.fullmatch(date)
+    days = days_of(*map(int, found.groups())) if found else 0
+    return days * DAY - DAY // 2 if found and date_text(days) == date else None
 
 
 def ticks_of(text: str, tick: int = 1) -> int:
     """The ticks since J2000 of a time as the command prints it."""
     found = TIME.fullmatch(text)
-    if found:
-        year, month, day, hour, minute, second, part = (int(word or 0) for word in found.groups())
-        seconds = days_of(year, month, day) * DAY - DAY // 2 + hour * 3_600 + minute * 60 + second
-        ticks = seconds * tick + part
-        if time_text(ticks, tick) == text:
-            return ticks
-    raise WrongReport(f"no time of a report: {text}")
+    midnight = _midnight_of(found[1]) if found else None
+    if found is None or midnight is None or (found[5] is None) == (tick == 1_000):
+        raise WrongReport(f"no time of a report: {text}")
+    seconds = midnight + int(found[2]) * 3_600 + int(found[3]) * 60 + int(found[4])
+    return seconds * tick + int(found[5] or 0)

@@ -3,7 +3,6 @@
 from __future__ import annotations
 
 import os
-import shutil
 import tempfile
 from collections.abc import Mapping
 from dataclasses import dataclass, field, replace
@@ -14,8 +13,10 @@ from .. import spans
 from ..ephemeris.named import HasNames, bodies_of, names_of
 from ..ephemeris.names import Files, some_names
 from ..ephemeris.sums import sha256_of
+from ..process.messages import shown
 from ..process.program import Program, runs_of
-from ..public import public
+from ..process.whole_files import copy_whole, write_whole
+from ..public import public, renamed
 from ..searches.kinds import KINDS, Kind
 from ..searches.options import Body, Unpack, Wanted, searches
 from ..searches.search import answer, options_of
@@ -65,25 +66,26 @@ class Certificate:
         try:
             return cls.of_text(Path(name).read_bytes().decode("ascii"))
         except UnicodeDecodeError:
-            raise spans.WrongReport(f"{os.fspath(name)} has bytes that no certificate has") from None
+            raise spans.WrongReport(f"{shown(os.fspath(name))} has bytes that no certificate has") from None
 
     def save(self, name: Union[str, os.PathLike[str]]) -> None:
-        """Writes the text to a file: what `finder cert` prints, letter for letter.
+        """Writes the text to a file: what `finder cert` prints, letter for letter. Each file is written whole or not at
+        all: where the disk is full, an `OSError` names the file, and what was there before is there still.
 
         Of an `Ephemeris` the text that was searched is written beside it, under the name of the certificate with `.asc`,
         or of several files with `-0001.asc` and so on; and under its name with `.sha256` the sums of all, as `sha256sum
         -c` checks them.
         """
         path = Path(name)
+        write_whole(path, self.text.encode("ascii"))
         written = [path.name]
-        path.write_bytes(self.text.encode("ascii"))
         for number, text in enumerate(self._texts):
             beside = path.with_name(f"{path.name}.asc" if len(self._texts) == 1 else f"{path.name}-{number:04}.asc")
-            shutil.copyfile(text, beside)
+            copy_whole(text, beside)
             written.append(beside.name)
         if self._texts:
             sums = [f"{sha256_of([str(path.with_name(each))])}  {each}\n" for each in written]
-            path.with_name(f"{path.name}.sha256").write_text("".join(sums), "ascii")
+            write_whole(path.with_name(f"{path.name}.sha256"), "".join(sums).encode("ascii"))
 
     @property
     def text(self) -> str:
@@ -96,14 +98,16 @@ class Certificate:
         return f"{self.report.request} span {self.report.span}"
 
     @property
-    def asked(self) -> dict[str, str]:
+    def request_words(self) -> dict[str, str]:
         """The words of the request by their names, with each option at its value or default."""
-        return self.report.asked
+        return self.report.request_words
+
+    asked = renamed("asked", "request_words")
 
     @property
     def bodies(self) -> dict[str, str]:
         """Target, second body and observer of the request, by the names of the `Ephemeris` that was searched."""
-        return bodies_of(self.asked, self.names)
+        return bodies_of(self.request_words, self.names)
 
     @property
     def tick(self) -> int:
@@ -207,7 +211,7 @@ def verify(
 
 def request_options(report: spans.CertificateText) -> dict[str, str]:
     """The options of the program for the request of a certificate."""
-    asked = dict(report.asked)
+    asked = dict(report.request_words)
     values = asked.pop("values").split(",")
     row = KINDS[asked["kind"]]
     names = [name for name in ("ref", "radius1", "radius2") if name in row.options()]

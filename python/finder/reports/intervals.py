@@ -114,9 +114,9 @@ def _turns(found: Windows) -> list[str]:
     """The turns of the windows of a search whose rises and falls take turns."""
     if not isinstance(found, Windows):
         raise TypeError(f"the windows of a search are wanted, and not {type(found).__name__}")
-    if found.asked["kind"] in MOMENTS:
+    if found.request_words["kind"] in MOMENTS:
         raise ValueError("conjunctions and oppositions are moments, and last no time")
-    if found.asked["dir"] != "any":
+    if found.request_words["dir"] != "any":
         raise ValueError("intervals want a search for both directions: dir='any'")
     turns: list[str] = found.turn.tolist()
     return turns
@@ -127,5 +127,5 @@ def _sign(found: Windows, files: Optional[Files], series: Optional[Series], tick
     if files is None and series is None:
         return None
     at = np.array([tick / found.tick])
-    value = float(Curve(series_about(files, series, at, found), found.asked).at(at)[0])
+    value = float(Curve(series_about(files, series, at, found), found.request_words).at(at)[0])
     return None if np.isnan(value) else value >= 0

@@ -32,13 +32,15 @@ class WrongParts(ValueError):
 def _in_order(parts: Iterable[T]) -> list[T]:
     """Parts of one request whose spans follow one another."""
     made: list[T] = []
-    for part in parts:
+    for number, part in enumerate(parts, 1):
         before = made[-1] if made else part
         if type(part) is not type(before) or part.request != before.request:
-            raise WrongParts(f"reports of different requests: {before.request} and {part.request}")
+            raise WrongParts(
+                f"parts {number - 1} and {number} are reports of different requests: {before.request} and {part.request}"
+            )
         if made and part.start != before.end:
             how = "overlap" if part.start < before.end else "do not meet"
-            raise WrongParts(f"the spans {before.span} and {part.span} {how}")
+            raise WrongParts(f"parts {number - 1} and {number}: the spans {before.span} and {part.span} {how}")
         made.append(part)
     if not made:
         raise WrongParts("no report")
@@ -97,12 +99,12 @@ def join_certificates(certificates: Iterable[CertificateText], summary: Summary)
     """The certificate of the whole span, of those of its parts in order, each of which ends at a border of a column in
     use of the files, or one tick before one: the pieces of all, one after the other."""
     parts = _in_order(certificates)
-    columns = columns_in_use(parts[0].asked)
-    for before, part in zip(parts, parts[1:]):
+    columns = columns_in_use(parts[0].request_words)
+    for number, (before, part) in enumerate(zip(parts, parts[1:]), 1):
         if not is_seam(part.start, part.tick, summary, columns):
             raise WrongParts(
-                f"the certificates of {before.span} and {part.span} meet at no border of {', '.join(sorted(columns))},"
-                " nor one tick before one: cut the span by `cut` or `files`"
+                f"parts {number} and {number + 1}: the certificates of {before.span} and {part.span} meet at no border"
+                f" of {', '.join(sorted(columns))}, nor one tick before one: cut the span by `cut` or `files`"
             )
     pieces = tuple(piece for part in parts for piece in part.pieces)
     return CertificateText(parts[0].request, parts[0].tick, parts[0].start, parts[-1].end, pieces)
@@ -119,4 +121,5 @@ def join_parts(parts: Sequence[Part], check_files: Callable[[], Summary]) -> Par
         return join_sets(sets)
     if len(certificates) == len(parts):
         return join_certificates(certificates, check_files())
-    raise WrongParts("reports, sets and certificates are not joined with one another")
+    number = next(at for at, part in enumerate(parts, 1) if type(part) is not type(parts[0]))
+    raise WrongParts(f"part {number} is of another command than part 1: reports, sets and certificates are not joined")

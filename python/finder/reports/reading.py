@@ -3,7 +3,7 @@
 from __future__ import annotations
 
 import re
-from collections.abc import Callable
+from collections.abc import Callable, Iterator
 from typing import TypeVar
 
 from .calendar import WrongReport, ticks_of
@@ -48,13 +48,39 @@ def _window(line: str, head: Report, asked: dict[str, str], after: int) -> Windo
     return window
 
 
-def _one_report(lines: list[str], at: int) -> tuple[Report, int]:
-    """The report that begins at a line, and the line after it."""
-    head = Report(*read_head(lines[at], REQUEST), ())
-    asked = head.asked
+class _Lines:
+    """The lines of a text, and the number of the last one that was read."""
+
+    def __init__(self, text: str) -> None:
+        self._lines = text.split("\n")[:-1]
+        self.number = 0
+
+    def has_more(self) -> bool:
+        """Whether a line is left."""
+        return self.number < len(self._lines)
+
+    def first_word(self) -> str:
+        """That of the next line."""
+        return self._lines[self.number].split(" ")[0]
+
+    def read(self) -> str:
+        """The next line."""
+        self.number += 1
+        return self._lines[self.number - 1]
+
+    def rest(self) -> Iterator[str]:
+        """The lines that are left, as far as they are wanted."""
+        while self.has_more():
+            yield self.read()
+
+
+def _one_report(lines: _Lines) -> Report:
+    """The report that begins at the next line."""
+    first = lines.read()
+    head = Report(*read_head(first, REQUEST), ())
+    asked = head.request_words
     windows: list[Window] = []
-    for number in range(at + 1, len(lines)):
-        line = lines[number]
+    for line in lines.rest():
         if line.startswith("END"):
             certain = sum(window.turn is not None for window in windows)
             found = COUNTS.fullmatch(line)
@@ -62,24 +88,24 @@ def _one_report(lines: list[str], at: int) -> tuple[Report, int]:
                 raise WrongReport(
                     f"the counts are {certain} and {len(windows) - certain}, and the last line says: {line}"
                 )
-            return Report(head.request, head.tick, head.start, head.end, tuple(windows)), number + 1
+            return Report(head.request, head.tick, head.start, head.end, tuple(windows))
         windows.append(_window(line, head, asked, windows[-1].last if windows else head.start))
-    raise WrongReport(f"a report without its last line: {lines[at]}")
+    raise WrongReport(f"a report without its last line: {first}")
 
 
-def _one_set(lines: list[str], at: int) -> tuple[SetReport, int]:
-    """The set that begins at a line, and the line after it."""
-    request, tick, start, end = read_head(lines[at], SET_REQUEST)
+def _one_set(lines: _Lines) -> SetReport:
+    """The set that begins at the next line."""
+    head = lines.read()
+    request, tick, start, end = read_head(head, SET_REQUEST)
     found: dict[str, list[tuple[int, int]]] = {"S": [], "P": []}
-    for number in range(at + 1, len(lines)):
-        line = lines[number]
+    for line in lines.rest():
         if line.startswith("END"):
             counts = SET_COUNTS.fullmatch(line)
             if not counts or (int(counts[1]), int(counts[2])) != (len(found["S"]), len(found["P"])):
                 raise WrongReport(
                     f"the counts are {len(found['S'])} and {len(found['P'])}, and the last line says: {line}"
                 )
-            return SetReport(request, tick, start, end, tuple(found["S"]), tuple(found["P"])), number + 1
+            return SetReport(request, tick, start, end, tuple(found["S"]), tuple(found["P"]))
         row = SET_LINE.fullmatch(line)
         if not row or (row[1] == "S" and found["P"]):
             raise WrongReport(f"no line of a report, or not in its place: {line}")
@@ -87,41 +113,60 @@ def _one_set(lines: list[str], at: int) -> tuple[SetReport, int]:
         if not (before[-1][1] + 2 if before else start) <= first <= last <= end:
             raise WrongReport(f"a span outside of the report's, or one that is not after the one before: {line}")
         before.append((first, last))
-    raise WrongReport(f"a report without its last line: {lines[at]}")
+    raise WrongReport(f"a report without its last line: {head}")
 
 
-def _one_certificate(lines: list[str], at: int) -> tuple[CertificateText, int]:
-    """The certificate that begins at a line, and the line after it."""
-    if lines[at] != "CERT 1" or at + 1 == len(lines):
-        raise WrongReport(f"no first lines of a certificate: {lines[at]}")
-    request, tick, start, end = read_head(lines[at + 1], REQUEST)
+def _one_certificate(lines: _Lines) -> CertificateText:
+    """The certificate that begins at the next line."""
+    mark = lines.read()
+    if mark != "CERT 1" or not lines.has_more():
+        raise WrongReport(f"no first lines of a certificate: {mark}")
+    head = lines.read()
+    request, tick, start, end = read_head(head, REQUEST)
     pieces: list[Piece] = []
     upto = start
-    for number in range(at + 2, len(lines)):
-        line = lines[number]
+    for line in lines.rest():
         found, last = PIECE.fullmatch(line), PIECES.fullmatch(line)
         if last and upto == end and int(last[1]) == len(pieces):
-            return CertificateText(request, tick, start, end, tuple(pieces)), number + 1
+            return CertificateText(request, tick, start, end, tuple(pieces))
         if not found or int(found[1]) != upto or not upto < int(found[2]) <= end:
             raise WrongReport(f"no line of a certificate, or not after the one before: {line}")
         pieces.append(Piece(upto, int(found[2]), int(found[3]), found[4]))
         upto = pieces[-1].upto
-    raise WrongReport(f"a certificate without its last line: {lines[at + 1]}")
+    raise WrongReport(f"a certificate without its last line: {head}")
+
+
+READERS: dict[str, Callable[[_Lines], Part]] = {"SET": _one_set, "CERT": _one_certificate}
+
+
+def numbered_parts(text: str) -> Iterator[tuple[int, Part]]:
+    """The reports, sets and certificates that stand one after the other in a text, each with the number of its first
+    line. Each line is checked, and the counts of the last one; what is wrong has the number of its line."""
+    lines = _Lines(text)
+    try:
+        while lines.has_more():
+            first = lines.number + 1
+            yield first, READERS.get(lines.first_word(), _one_report)(lines)
+    except WrongReport as error:
+        if not lines.has_more():
+            _refuse_cut_off(text, lines)
+        error.line_number = lines.number
+        raise
+    _refuse_cut_off(text, lines)
+
+
+def _refuse_cut_off(text: str, lines: _Lines) -> None:
+    """Refuses a text whose last line has no line feed, once all lines before it were read."""
+    if text and not text.endswith("\n"):
+        error = WrongReport("the last line is cut off")
+        error.line_number = lines.number + 1
+        raise error
 
 
 def read_parts(text: str) -> list[Part]:
     """The reports, sets and certificates that stand one after the other in a text. Each line is checked, and the counts
     of the last one."""
-    if text and not text.endswith("\n"):
-        raise WrongReport("the last line is cut off")
-    lines = text.split("\n")[:-1]
-    readers: dict[str, Callable[[list[str], int], tuple[Part, int]]] = {"SET": _one_set, "CERT": _one_certificate}
-    parts: list[Part] = []
-    at = 0
-    while at < len(lines):
-        part, at = readers.get(lines[at].split(" ")[0], _one_report)(lines, at)
-        parts.append(part)
-    return parts
+    return [part for _, part in numbered_parts(text)]
 
 
 T = TypeVar("T", Report, SetReport, CertificateText)

@@ -6,7 +6,7 @@ import re
 from dataclasses import dataclass
 from typing import NamedTuple, Optional, Union
 
-from ..public import public
+from ..public import public, renamed
 from .calendar import WrongReport, ticks_of, time_text
 
 
@@ -44,9 +44,11 @@ class Report:
     windows: tuple[Window, ...]
 
     @property
-    def asked(self) -> dict[str, str]:
+    def request_words(self) -> dict[str, str]:
         """The words of the request by their names: kind, target, second, observer and so on."""
         return words_of(self.request, REQUEST)
+
+    asked = renamed("asked", "request_words")
 
     @property
     def span(self) -> str:
@@ -77,9 +79,11 @@ class SetReport:
     possible: tuple[tuple[int, int], ...]
 
     @property
-    def asked(self) -> dict[str, str]:
+    def request_words(self) -> dict[str, str]:
         """The words of the request by their names."""
         return words_of(self.request, SET_REQUEST)
+
+    asked = renamed("asked", "request_words")
 
     @property
     def span(self) -> str:
@@ -117,9 +121,11 @@ class CertificateText:
     pieces: tuple[Piece, ...]
 
     @property
-    def asked(self) -> dict[str, str]:
+    def request_words(self) -> dict[str, str]:
         """The words of the request by their names."""
         return words_of(self.request, REQUEST)
+
+    asked = renamed("asked", "request_words")
 
     @property
     def span(self) -> str:

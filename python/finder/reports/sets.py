@@ -11,7 +11,7 @@ import numpy.typing as npt
 
 from .. import spans
 from ..ephemeris.named import bodies_of
-from ..public import public
+from ..public import public, renamed
 from ..searches.times import Time, seconds_of_length, ticks_of_time
 from .ends import End, Ends
 from .table import SHOWN, frame_of, html_of, times_of
@@ -261,15 +261,17 @@ class TimeSet:
         return spans.span_text(self.start, self.end, self.tick)
 
     @property
-    def asked(self) -> dict[str, str]:
+    def request_words(self) -> dict[str, str]:
         """The words of the request by their names, with each option at its value or default; of a set that is made of
         others, none."""
         return {} if self.request is None else spans.words_of(self.request, spans.SET_REQUEST)
 
+    asked = renamed("asked", "request_words")
+
     @property
     def bodies(self) -> dict[str, str]:
         """Target, second body and observer of the request, by the names of the `Ephemeris` that was searched."""
-        return bodies_of(self.asked, self.names)
+        return bodies_of(self.request_words, self.names)
 
     def __and__(self, other: TimeSet) -> TimeSet:
         if not isinstance(other, TimeSet):
@@ -352,7 +354,7 @@ class TimeSet:
         """A row for each sure and for each possible span, as arrays: `kind`, `target`, `second` (None in a set that is
         made of others), `certain`, whether it is one of the sure ones, `first` and `last` (TDB), and both in milliseconds
         since J2000."""
-        asked = self.asked
+        asked = self.request_words
         words = {name: asked.get(name) for name in ("kind", "target", "second")}
         first, last = (np.concatenate([getattr(rows, end) for rows in self._both()]) for end in ("first", "last"))
         sure = np.arange(len(first)) < len(self.sure)

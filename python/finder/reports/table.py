@@ -42,7 +42,7 @@ def columns_of(found: Windows, seen: Optional[Seen] = None, numbers: Optional[Va
     """
     from ..almanac.names import names
 
-    asked, bodies = found.asked, found.bodies
+    asked, bodies = found.request_words, found.bodies
     turn = np.array([turn or None for turn in found.turn.tolist()], dtype=object)
     east = None if numbers is None else numbers.east
     made: Columns = {

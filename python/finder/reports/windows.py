@@ -11,7 +11,7 @@ import numpy.typing as npt
 from .. import spans
 from ..ephemeris.named import bodies_of
 from ..ephemeris.names import Files
-from ..public import public
+from ..public import public, renamed
 from ..spans import Report
 from .ends import End, Ends, datetime64_of
 from .table import columns_of, frame_of, html_of, lines_of
@@ -112,9 +112,11 @@ half': 4 certain, 0 undecided
         return self.report.text()
 
     @property
-    def asked(self) -> dict[str, str]:
+    def request_words(self) -> dict[str, str]:
         """The words of the request by their names, with each option at its value or default."""
-        return self.report.asked
+        return self.report.request_words
+
+    asked = renamed("asked", "request_words")
 
     @property
     def bodies(self) -> dict[str, str]:
@@ -126,7 +128,7 @@ half': 4 certain, 0 undecided
         >>> finder.conjunctions(sky, "moon", "regulus").bodies
         {'target': 'moon', 'second': 'regulus', 'observer': 'earth'}
         """
-        return bodies_of(self.asked, self.names)
+        return bodies_of(self.request_words, self.names)
 
     def __len__(self) -> int:
         return len(self.first)

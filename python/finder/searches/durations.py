@@ -33,7 +33,7 @@ def times(
     **options: Unpack[TimesOptions],
 ) -> TimeSet:
     """The times at which the function of a kind has a relation to a number, with the options of `finder set`
-    (`docs/USAGE.md`): `less` or `<`, it is below `ref`; `atleast` or `>`, it is at least `ref`; `within`, at least
+    (`docs/guide/usage.md`): `less` or `<`, it is below `ref`; `atleast` or `>`, it is at least `ref`; `within`, at least
     `ref` and below `ref2`; `outside`, below `ref` or at least `ref2`. For `sep` the numbers are cosines, so that
     `atleast` is near.
 

@@ -79,7 +79,7 @@ class Extreme:
         and of `short`."""
         kind: Kind = "radius" if self.quantity == "distance" else "sep"
         found = [windows for windows in (self.beyond, self.short) if windows is not None]
-        return tuple(certificate(self._files, kind, ref=row.asked["values"], **self._words) for row in found)
+        return tuple(certificate(self._files, kind, ref=row.request_words["values"], **self._words) for row in found)
 
     def __repr__(self) -> str:
         unit = "km" if self.quantity == "distance" else "degrees"
@@ -194,7 +194,7 @@ def _candidates(events: Windows, files: Files) -> tuple[list[Window], Floats]:
     windows = [*events, *ends]
     times = np.array([(window.first + window.last) / 2 for window in windows])
     series = Series(files, events.start - spans.DAY, events.end + spans.DAY)
-    asked = events.asked
+    asked = events.request_words
     places = [
         series.seen(asked[role], asked["observer"], "eq", times) for role in ("target", "second") if asked[role] != "-"
     ]

@@ -1,7 +1,7 @@
 """The one home of what a kind of event is: its words, what they mean, and what almanacs and curves make of it.
 
 The literals that type checkers read stand beside the table; the texts of help, the hints of refusals, the options of
-certificates, the functions in doubles and the names of events are made of its rows. The table of `docs/USAGE.md`, the
+certificates, the functions in doubles and the names of events are made of its rows. The table of `docs/guide/usage.md`, the
 completion and `tools/check-certificate` have rows of their own, which a test compares, with the program's refusals too.
 """
 

@@ -110,9 +110,9 @@ def over_files(
         plan = spans.spans_of_files(names, read, low, high)
         if progress is not None and len(plan) < len(names):
             progress(len(names) - len(plan))
-        told = {**options, "tick": tick}
+        given = {**options, "tick": tick}
         rows = [
-            (search, some_of(files, [*first, name]), words, _time_of(begin), _time_of(stop), told)
+            (search, some_of(files, [*first, name]), words, _time_of(begin), _time_of(stop), given)
             for begin, stop, name in plan
         ]
         made: Found = join(calls.results(_part, rows, progress), read[0])
@@ -166,9 +166,9 @@ def _part(
 
 
 def _name_of(program: Program) -> Optional[str]:
-    """A command as an executor can be told it."""
+    """A command as an executor takes it."""
     if isinstance(program, Runs):
-        raise TypeError("an executor wants the name of the command")
+        raise TypeError("an executor takes the name of the command")
     return None if program is None else os.fspath(program)
 
 

@@ -2,7 +2,7 @@
 
 Seen from another planet, Moon and Earth stand so near to one another that the bounds of a long span tell them apart at
 no tick: beyond some years the tree of such a search has many millions of leaves, and takes minutes. In parts of a year
-it takes a second. Parts that are cut at borders of blocks have the windows of the whole (`docs/MANY-MACHINES.md`).
+it takes a second. Parts that are cut at borders of blocks have the windows of the whole (`docs/guide/many-machines.md`).
 """
 
 from __future__ import annotations

@@ -48,15 +48,15 @@ def find(
     end: Optional[Time] = None,
     **wanted: Unpack[Wanted],
 ) -> Windows:
-    """The windows of the events of a kind in files, with the options of `finder find` (`docs/USAGE.md`).
+    """The windows of the events of a kind in files, with the options of `finder find` (`docs/guide/usage.md`).
 
     >>> import finder
     >>> found = finder.find("examples/de405-2000.asc", "oppo", "jupiter", "sun", observer="earth", frame="ecl")
     >>> print(found.datetime64(), found.certain)
     ['2000-11-28T02:02:18'] [ True]
 
-    Where no observer is named it is `ssb`, the barycentre of the solar system; for what is asked from a planet that is
-    told by a `BarycentreWarning`.
+    Without `observer=` it is `ssb`, the barycentre of the solar system. Of kinds that are seen from a planet a
+    `BarycentreWarning` says so.
     """
     options = options_of(files, kind, target, second, start=start, end=end, **wanted)
     report = answer("find", options, files, dict(wanted), Report)
@@ -154,7 +154,7 @@ def answer(command: str, options: dict[str, Any], files: Files, wanted: dict[str
 def is_answer(report: Part, options: dict[str, Any]) -> bool:
     """Whether a report is of what was asked for, so that another search's text is no answer."""
     start, end = report.span.split(" ")
-    said = {**report.asked, "tick": str(report.tick), "from": start, "to": end}
+    said = {**report.request_words, "tick": str(report.tick), "from": start, "to": end}
     wanted = {**UNSAID, **{name: value for name, value in options.items() if value is not None}}
     if options["kind"] == "coord":
         wanted.setdefault("ref", "0")

@@ -6,6 +6,7 @@ from collections.abc import Callable
 from typing import Any, Optional
 
 import numpy as np
+import numpy.typing as npt
 
 from .. import spans
 from ..ephemeris.order import J2000_DATE
@@ -13,10 +14,8 @@ from ..ephemeris.series import Series
 from ..public import public
 from ..searches.words import one_of
 from .curves import LIGHT
-from .vectors import Floats, floats, length, many
+from .vectors import AU, Floats, floats, length, many
 
-# The kilometres of an astronomical unit.
-AU = 149_597_870.7
 # The least of 1 + cos at which light is bent: a body further behind the Sun's disc is not seen at all.
 BEHIND = 1e-6
 # Each pass leaves a part of v/c of the fault of a place before: the third some decimetres.
@@ -28,7 +27,7 @@ NODES = np.arange(-2, 4)
 
 @public
 class NoErfa(ImportError):
-    """Bodies as they are seen, axes of date and UTC want the package `erfa` (Debian: python3-erfa; pip: pyerfa).
+    """Bodies as they are seen, axes of date and UTC need the package `erfa` (Debian: python3-erfa; pip: pyerfa).
 
     >>> import finder
     >>> issubclass(finder.NoErfa, ImportError)
@@ -42,24 +41,26 @@ def erfa_package() -> Any:
         import erfa
     except ImportError:
         raise NoErfa(
-            "bodies as they are seen, the axes of date and UTC want the package erfa (pip: pyerfa, Debian: "
-            "python3-erfa; it comes with astropy); geometric places want none"
+            "bodies as they are seen, the axes of date and UTC need the package erfa (pip: pyerfa, Debian: "
+            "python3-erfa; it comes with astropy); geometric places need none"
         ) from None
     return erfa
 
 
-class _Nutation:
-    """Nutation in longitude and in obliquity in radians, of the IAU's model of 2000A as it was adjusted in 2006."""
+class AtHalfDays:
+    """Functions of time at half days since J2000 (TDB), each computed once: `make` takes days since J2000, and gives a
+    row for each function."""
 
-    def __init__(self) -> None:
-        self._known = np.empty(0, dtype=int), np.empty((2, 0))
+    def __init__(self, make: Callable[[Floats], Any], rows: int) -> None:
+        self._make = make
+        self._known = np.empty(0, dtype=int), np.empty((rows, 0))
 
-    def _nodes(self, wanted: Any) -> Floats:
-        """Both angles at half days since J2000, of numbers without a repetition and in order."""
+    def rows(self, wanted: npt.NDArray[np.int_]) -> Floats:
+        """The rows at half days of numbers without a repetition and in order."""
         known, rows = self._known
         more = np.setdiff1d(wanted, known, assume_unique=True)
         if len(more):
-            made = np.array(erfa_package().nut06a(J2000_DATE, more * HALF_DAY / spans.DAY))
+            made = np.array(self._make(more * HALF_DAY / spans.DAY)).reshape(len(rows), -1)
             known, rows = np.concatenate([known, more]), np.concatenate([rows, made], axis=1)
             order = known.argsort()
             known, rows = known[order], rows[:, order]
@@ -67,20 +68,20 @@ class _Nutation:
             self._known = known, rows
         return floats(rows[:, np.searchsorted(known, wanted)])
 
-    def at(self, times: Floats) -> Floats:
-        """Both angles at seconds since J2000 (TDB)."""
-        place = times / HALF_DAY
-        whole = np.floor(place).astype(int)
-        part = place - whole
-        wanted, numbers = np.unique(whole[:, None] + NODES, return_inverse=True)
-        near = self._nodes(wanted)[:, numbers.reshape(-1, len(NODES))]
-        weights = [
-            np.prod([(part - other) / (node - other) for other in NODES if other != node], axis=0) for node in NODES
-        ]
-        return floats((near * np.stack(weights, axis=-1)).sum(axis=-1))
+
+# Nutation in longitude and in obliquity in radians, of the IAU's model of 2000A as it was adjusted in 2006.
+NUTATION = AtHalfDays(lambda days: erfa_package().nut06a(J2000_DATE, days), 2)
 
 
-NUTATION = _Nutation()
+def _nutation(times: Floats) -> Floats:
+    """Both angles of nutation at seconds since J2000 (TDB)."""
+    place = times / HALF_DAY
+    whole = np.floor(place).astype(int)
+    part = place - whole
+    wanted, numbers = np.unique(whole[:, None] + NODES, return_inverse=True)
+    near = NUTATION.rows(wanted)[:, numbers.reshape(-1, len(NODES))]
+    weights = [np.prod([(part - other) / (node - other) for other in NODES if other != node], axis=0) for node in NODES]
+    return floats((near * np.stack(weights, axis=-1)).sum(axis=-1))
 
 
 def frames_of_date(frame: str, times: Floats) -> Floats:
@@ -89,7 +90,7 @@ def frames_of_date(frame: str, times: Floats) -> Floats:
     erfa = erfa_package()
     at = np.nan_to_num(times)
     turn, node, tilt, mean = erfa.pfw06(J2000_DATE, at / spans.DAY)
-    longitude, obliquity = NUTATION.at(at)
+    longitude, obliquity = _nutation(at)
     rows = erfa.fw2m(turn, node, tilt + longitude, mean + obliquity)
     return floats(erfa.rx(mean + obliquity, rows) if frame == "ecl" else rows)
 
@@ -113,7 +114,7 @@ class ApparentPlaces:
     """Places of bodies as they are seen from one another, in doubles and unproved.
 
     Each is where the body was when its light set out, turned by aberration, and with `bending` bent by the Sun's mass.
-    It wants erfa. With `of_date` it is on the axes of date, for files whose axes are those of the ICRS, as those of
+    It needs erfa. With `of_date` it is on the axes of date, for files whose axes are those of the ICRS, as those of
     JPL's files have been since DE403; without it on the axes of the file, or the ecliptic of J2000.
 
     >>> import finder

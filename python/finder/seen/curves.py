@@ -23,7 +23,7 @@ SIGNS = {"any": (1, 1), "full": (1, -1), "annular": (-1, 1)}
 class Curve:
     """A quantity that is above 0 after a rise and below 0 after a fall of the events of a request, and its unit.
 
-    `asked` are the words of the request by their names, as `Windows.asked` has them. Places are geometric, of `series`.
+    `asked` are the words of the request by their names, as `Windows.request_words` has them. Places are geometric, of `series`.
     """
 
     def __init__(self, series: Series, asked: dict[str, str]) -> None:

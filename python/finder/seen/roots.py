@@ -22,7 +22,7 @@ STEPS = 60
 
 def roots(function: Function, middle: Floats, reach: Floats) -> Floats:
     """The time nearest to each middle at which its function grows past 0, within its reach on both sides, to about a
-    millisecond; NaN where there is none. All are seconds."""
+    millisecond; NaN if there is none. All are seconds."""
     brackets = np.full((4, len(middle)), np.nan)
     for half in NEAR:
         left = np.flatnonzero(np.isnan(brackets[0]) & (reach >= half))

@@ -7,7 +7,8 @@ import difflib
 import re
 import warnings
 import zoneinfo
-from dataclasses import dataclass
+from collections.abc import Iterable, Mapping, Sequence
+from dataclasses import dataclass, field
 from enum import Enum
 from fractions import Fraction
 from typing import Any, Union
@@ -67,16 +68,18 @@ def utc_of_all(seconds: Any) -> list[datetime.datetime]:
     ]
 
 
-def _tdb_of_utc(moment: datetime.datetime) -> float:
+def _tdb_of_utc(moments: Sequence[datetime.datetime]) -> Floats:
+    """The seconds of TDB since J2000 of times that have a zone."""
     erfa = erfa_package()
-    utc = moment.astimezone(UTC)
-    second = utc.second + utc.microsecond / 1e6
+    all_utc = [moment.astimezone(UTC) for moment in moments]
+    rows = [(utc.year, utc.month, utc.day, utc.hour, utc.minute) for utc in all_utc]
+    seconds = [utc.second + utc.microsecond / 1e6 for utc in all_utc]
     with warnings.catch_warnings():
         warnings.simplefilter("ignore", erfa.ErfaWarning)
-        tai = erfa.utctai(*erfa.dtf2d("UTC", utc.year, utc.month, utc.day, utc.hour, utc.minute, second))
+        tai = erfa.utctai(*erfa.dtf2d("UTC", *np.array(rows, dtype=np.intc).T, seconds))
     whole, part = erfa.taitt(*tai)
-    seconds = float((whole - J2000_DATE) * spans.DAY + part * spans.DAY)
-    return seconds + float(_tdb_less_tt(seconds))
+    made = floats((whole - J2000_DATE) * spans.DAY + part * spans.DAY)
+    return made + _tdb_less_tt(made)
 
 
 def tdb_of_utc(seconds: Fraction) -> Fraction:
@@ -166,9 +169,16 @@ class Clock:
     def at(self, seconds: float) -> datetime.datetime:
         """The time of seconds of TDB since J2000, with its zone where the scale is UTC."""
         if self.scale is Scale.UTC:
-            return utc_of(seconds).astimezone(self.zone)
+            return self._utc(seconds).astimezone(self.zone)
         behind = float(_tdb_less_tt(seconds)) if self.scale is Scale.TT else 0.0
         return J2000 + datetime.timedelta(seconds=seconds - behind)
+
+    def _utc(self, seconds: float) -> datetime.datetime:
+        return utc_of(seconds)
+
+    def plain(self) -> Clock:
+        """The clock of the same scale without a zone."""
+        return Clock(self.scale)
 
     def all_at(self, seconds: Any) -> list[datetime.datetime]:
         """The times of many seconds of TDB since J2000, as `at` has them of one."""
@@ -194,7 +204,32 @@ class Clock:
 
     def seconds_of(self, moment: datetime.datetime) -> float:
         """The seconds of TDB since J2000 of a time of this clock, without a zone."""
-        if self.scale is Scale.UTC:
-            return _tdb_of_utc(moment.replace(tzinfo=self.zone))
-        seconds = (moment - J2000).total_seconds()
-        return seconds + (float(_tdb_less_tt(seconds)) if self.scale is Scale.TT else 0.0)
+        return float(self.all_seconds_of([moment])[0])
+
+    def all_seconds_of(self, moments: Sequence[datetime.datetime]) -> Floats:
+        """The seconds of TDB since J2000 of many times, as `seconds_of` has them of one."""
+        if self.scale is Scale.UTC and len(moments):
+            return _tdb_of_utc([moment.replace(tzinfo=self.zone) for moment in moments])
+        seconds = floats([(moment - J2000).total_seconds() for moment in moments])
+        return seconds + (_tdb_less_tt(seconds) if self.scale is Scale.TT else 0.0)
+
+
+@dataclass(frozen=True)
+class ReadyClock(Clock):
+    """A clock that has the UTC of some seconds at hand: one that is computed alone takes as long as hundreds at once."""
+
+    known: Mapping[float, datetime.datetime] = field(default_factory=dict, compare=False, repr=False)
+
+    @classmethod
+    def of_times(cls, clock: Clock, seconds: Iterable[float]) -> ReadyClock:
+        """The clock, with the times of some seconds of TDB since J2000."""
+        at = list(dict.fromkeys(seconds))
+        known = dict(zip(at, utc_of_all(at))) if at and clock.scale is Scale.UTC else {}
+        return cls(clock.scale, clock.zone, clock.name, known)
+
+    def _utc(self, seconds: float) -> datetime.datetime:
+        return self.known.get(seconds) or utc_of(seconds)
+
+    def plain(self) -> Clock:
+        """The clock of the same scale without a zone, with the same times."""
+        return ReadyClock(self.scale, known=self.known)

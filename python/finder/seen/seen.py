@@ -176,7 +176,7 @@ def seen(
 
     The request's own function is solved near each window, in the window's direction, for bodies as they are seen from
     the request's observer: where they were when their light set out, turned by aberration, and with `bending` bent by
-    the Sun's mass. With `of_date`, which wants erfa, longitudes, right ascensions and coordinates are those of the true
+    the Sun's mass. With `of_date`, which needs erfa, longitudes, right ascensions and coordinates are those of the true
     equator or ecliptic and the true equinox of date; without it those of J2000. Distances and apsides, which an almanac
     prints geometric, are solved so, within their windows. With `phases` a search `sep` of the cosine 0 is solved for a
     difference of 90 degrees in ecliptic longitude, as quarters of the Moon are defined. With `arrival`, a body, each
@@ -202,7 +202,7 @@ def seen(
     refuse_sky(found.files if files is None else files, "seen")
     if len(found) == 0:
         return Seen(found, np.empty(0), found.turn, ())
-    asked = found.asked
+    asked = found.request_words
     made = _series_near(found, files, series, middles(found))
     geometric = Curve(made, asked)
     curve = geometric if asked["kind"] in GEOMETRIC else SeenCurve(made, asked, of_date, bending, phases)
@@ -230,7 +230,7 @@ def _solved(curve: Curve, found: Windows, sign: Floats) -> Seen:
     middle = middles(found)
     reach = _reach(curve, found, middle)
     seconds = roots(lambda times, places: curve.at(times) * sign[places], middle, reach)
-    if found.asked["kind"] in GEOMETRIC:
+    if found.request_words["kind"] in GEOMETRIC:
         seconds = np.clip(seconds, (found.first - 1) / found.tick, found.last / found.tick)
     twice = _taken(seconds, sign, np.where(found.certain, abs(seconds - middle), np.inf))
     seconds[twice] = np.nan
@@ -242,7 +242,7 @@ def _refuse(found: Windows, phases: bool) -> None:
     """Refuses what has no events, and quarters of what are none."""
     if not isinstance(found, Windows):
         raise TypeError(f"the windows of a search are wanted, and not {type(found).__name__}")
-    if phases and (found.asked["kind"] != "sep" or float(found.asked["values"]) != 0):
+    if phases and (found.request_words["kind"] != "sep" or float(found.request_words["values"]) != 0):
         raise ValueError("phases are those of a search for the angle whose cosine is 0: separation(.., cosine=0)")
 
 
@@ -253,7 +253,7 @@ def _series_near(found: Windows, files: Optional[Files], series: Optional[Series
     files = found.files if files is None else files
     if files is None:
         raise TypeError("the files of the search are wanted, or a series of them")
-    kind = found.asked["kind"]
+    kind = found.request_words["kind"]
     # (light comes from some hours before, and so many times them are looked through)
     pad = KINDS[kind].reach + (MOST if kind == "coord" else 0) + 3 * spans.DAY
     pad += float((found.last - found.first).max()) / found.tick
@@ -269,7 +269,7 @@ def _signs(curve: Curve, found: Windows) -> Floats:
     left = np.flatnonzero(~found.certain & (found.last - found.first < MINUTE * found.tick))
     if len(left):
         before, after = curve.at(middle[left] - ASIDE), curve.at(middle[left] + ASIDE)
-        asked = found.asked["dir"]
+        asked = found.request_words["dir"]
         rises, falls = (before < 0) & (after >= 0), (before >= 0) & (after < 0)
         sign[left] = np.where(rises & (asked != "fall"), 1.0, 0.0) - np.where(falls & (asked != "rise"), 1.0, 0.0)
     return floats(sign)
@@ -277,7 +277,7 @@ def _signs(curve: Curve, found: Windows) -> Floats:
 
 def _reach(curve: Curve, found: Windows, middle: Floats) -> Floats:
     """The seconds on both sides of the middle of each window within which its time is looked for."""
-    kind = found.asked["kind"]
+    kind = found.request_words["kind"]
     base = floats(KINDS[kind].reach + (found.last - found.first) / (2 * found.tick))
     if kind in GEOMETRIC:
         return base

@@ -19,10 +19,8 @@ from ..reports.windows import Windows
 from .apparent import ApparentPlaces
 from .curves import Curve
 from .seen import GEOMETRIC, Seen, SeenCurve, middles
-from .vectors import Floats, angle, floats, latitude, length, longitude, wrapped
+from .vectors import AU, Floats, angle, floats, latitude, length, longitude, wrapped
 
-# The kilometres of an astronomical unit (International Astronomical Union, resolution B2 of 2012).
-AU = 149_597_870.7
 # The columns of a place, and their units.
 PLACE_UNITS = {"distance_km": "km", "distance_au": "AU", "ra": "deg", "dec": "deg", "lon": "deg", "lat": "deg"}
 
@@ -156,7 +154,7 @@ def values(
     They are those of the middle of each window, in which the event is, or of the times `at`: what `seen` gave, or
     seconds since J2000 (TDB), one for each window. Places are geometric, as the search's are, on the axes of J2000;
     with `apparent` they are those of bodies as they are seen, and with `of_date` on the axes of date, which is for
-    `apparent` ones alone and wants erfa. Where a time is missing, or the files have no place, numbers are NaN.
+    `apparent` ones alone and needs erfa. Where a time is missing, or the files have no place, numbers are NaN.
 
     >>> import finder
     >>> year = "examples/de405-2000.asc"
@@ -173,11 +171,11 @@ def values(
     if seconds.shape != (len(found),):
         raise ValueError(f"one time for each of {len(found)} windows is wanted, and not an array of {seconds.shape}")
     made = series_about(files, series, seconds, found)
-    if not apparent or found.asked["kind"] in GEOMETRIC:
-        curve = Curve(made, found.asked)
+    if not apparent or found.request_words["kind"] in GEOMETRIC:
+        curve = Curve(made, found.request_words)
     else:
-        curve = SeenCurve(made, found.asked, of_date, bending=True, phases=False)
-    return _numbers(curve, ApparentPlaces(made, of_date) if apparent else made, found.asked, seconds, apparent, of_date)
+        curve = SeenCurve(made, found.request_words, of_date, bending=True, phases=False)
+    return _numbers(curve, ApparentPlaces(made, of_date) if apparent else made, found.request_words, seconds, apparent, of_date)
 
 
 def _numbers(

@@ -8,6 +8,8 @@ import numpy as np
 import numpy.typing as npt
 
 Floats = npt.NDArray[np.float64]
+# The kilometres of an astronomical unit (International Astronomical Union, resolution B2 of 2012).
+AU = 149_597_870.7
 
 
 def floats(values: Any) -> Floats:

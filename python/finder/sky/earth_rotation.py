@@ -277,7 +277,7 @@ def earth_rotation(
 ) -> EarthRotation:
     """How the Earth turns: by the table of the IERS that astropy ships, by a file of it, or by one `delta_t`, seconds.
 
-    It wants astropy for a table; `delta_t=` wants none. `ValueError` names a file that is no such table.
+    It needs astropy for a table; `delta_t=` needs none. `ValueError` names a file that is no such table.
 
     >>> print(earth_rotation().sentence(0.0, 1.0))
     UT1 is by the series C04 of the IERS (eopc04_IAU2000.62-now), from 1962-01-01 to 2022-11-29.

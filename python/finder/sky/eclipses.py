@@ -137,7 +137,7 @@ def transits_of_planets(
 
 
 # The contacts of an eclipse of the Moon: the kind of the search, the sign with which the Moon's radius goes to that of
-# the Earth's shadow, the one with which it goes to the Sun's, and the names (docs/RECIPES.md).
+# the Earth's shadow, the one with which it goes to the Sun's, and the names (docs/guide/recipes.md).
 LUNAR = (
     ("any", 1, -1, ("P1", "P4")),
     ("full", 1, 1, ("U1", "U4")),

@@ -7,7 +7,7 @@ from typing import Any
 
 
 from ..ephemeris import writing
-from ..ephemeris.cache import key_of, kept
+from ..ephemeris.cache import Made, kept, key_of
 from ..ephemeris.columns import columns_of
 from ..ephemeris.series import Series
 from ..ephemeris.sky_text import SkyText
@@ -44,7 +44,7 @@ class FlatText:
         return Series(self.files).seen(body, "earth", "eq", seconds)
 
 
-def _made(sky: SkyText) -> tuple[Any, dict[str, Any]]:
+def _made(sky: SkyText) -> Made:
     """The bytes of the text, and what is known of it."""
     series = Series(sky)
     columns = {}
@@ -60,11 +60,11 @@ def _made(sky: SkyText) -> tuple[Any, dict[str, Any]]:
         "name": "flat",
         "start": text.start,
         "end": text.end,
-        "asked": list(sky.asked),
+        "asked": list(sky.requested_span),
         "names": {body: body for body in BODIES},
         "errors": {},
         "titles": list(text.titles),
     }
-    return writing.files(text), about
+    return Made(writing.files(text), about, text)
 
 

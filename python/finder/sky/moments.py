@@ -4,7 +4,7 @@ from __future__ import annotations
 
 import datetime
 from collections.abc import Callable, Iterable, Iterator, Sequence
-from dataclasses import dataclass, replace
+from dataclasses import dataclass
 from typing import Any, Optional, Union, overload
 
 import numpy as np
@@ -62,7 +62,7 @@ class Moment:
 
     @property
     def error(self) -> float:
-        """Half the width in seconds of the window that the time is the middle of; NaN where there is none."""
+        """Half the width in seconds of the window that the time is the middle of; NaN if there is none."""
         window = self.fine or self.window
         return float("nan") if window is None else (window.last - window.first + 1) / 2 / window.tick
 
@@ -272,4 +272,7 @@ def _best(window: Window, within: list[Window]) -> Optional[Window]:
 def with_places(moments: Sequence[Moment], altitudes: Floats, azimuths: Floats) -> list[Moment]:
     """Moments with the altitudes and azimuths of their bodies."""
     rows = zip(moments, altitudes.tolist(), azimuths.tolist())
-    return [replace(each, altitude=altitude, azimuth=azimuth) for each, altitude, azimuth in rows]
+    return [
+        Moment(each.name, each.body, each.seconds, each.window, each.fine, each.request, altitude, azimuth, each.is_within)
+        for each, altitude, azimuth in rows
+    ]

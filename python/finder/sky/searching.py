@@ -11,6 +11,7 @@ from typing import Any, Optional, Protocol
 
 import numpy as np
 
+from ..ephemeris.excerpts import Excerpts
 from ..process.program import Runs
 from ..reports.sets import TimeSet
 from ..reports.windows import Windows
@@ -24,6 +25,18 @@ SECOND, MILLISECOND = 1, 1_000
 # A name for a turn: `rise`, `fall`, or None where the window is undecided.
 Naming = Callable[[Optional[str]], str]
 Span = tuple[int, int]
+# The kind of a search, its target, and its second body if it has one.
+Bodies = tuple[str, str, Optional[str]]
+
+
+def observer_of(target: str, second: Optional[str]) -> str:
+    """The program's word for the observer of two bodies, who is at the origin of a sky's text.
+
+    The Earth is at the origin too, as the difference of two columns that are equal. The origin itself, which the program
+    calls `ssb`, has none to be read, so that a search of a body and the zenith takes two thirds of the time. The Moon
+    is placed by the Earth's columns.
+    """
+    return "ssb" if second == "zenith" and target != "moon" else "earth"
 
 
 class TextOfSky(Protocol):
@@ -47,6 +60,7 @@ class Searches:
 
     def __init__(self, text: TextOfSky, program: Runs, axes: str) -> None:
         self._text = text
+        self._excerpts = Excerpts(text.files)
         self._program = program
         self._axes = axes
         #: How many searches were made.
@@ -66,12 +80,12 @@ class Searches:
             f"this sky has no {body!r}: {hint}There are {', '.join(bodies)}; bodies= and stars= name others"
         )
 
-    @property
-    def _files(self) -> list[str]:
-        return list(self._text.files)
-
-    def _columns(self, target: str, second: Optional[str]) -> tuple[str, Optional[str]]:
-        return self.column(target), None if second is None else self.column(second)
+    def _words_of(self, words: Bodies, span: Span, options: Mapping[str, Any]) -> tuple[Any, ...]:
+        """The files that a search needs of the text, and its kind and the columns of its bodies."""
+        kind, target, second = words
+        columns = self.column(target), None if second is None else self.column(second)
+        bodies = [column for column in (*columns, options["observer"]) if column is not None]
+        return self._excerpts.files(bodies, *span), kind, *columns
 
     def _of(self, span: Span, tick: int) -> dict[str, Any]:
         return {"tick": tick, "start": span[0], "end": span[1], "program": self._program}
@@ -81,10 +95,10 @@ class Searches:
         key = kind, target, second, span, tick, *sorted(words.items())
         if key not in self._windows:
             self.count += 1
-            options = {"observer": "earth", **words}
+            options = {"observer": observer_of(target, second), **words}
             search: Callable[..., Windows] = find
-            columns = self._columns(target, second)
-            self._windows[key] = search(self._files, kind, *columns, **self._of(span, tick), **options)
+            words_of_search = self._words_of((kind, target, second), span, options)
+            self._windows[key] = search(*words_of_search, **self._of(span, tick), **options)
         return self._windows[key]
 
     def both(self, kind: str, target: str, second: Optional[str], span: Span, **words: Any) -> tuple[Windows, Windows]:
@@ -100,10 +114,10 @@ class Searches:
         key = kind, target, second, span, tick, *sorted(words.items())
         if key not in self._sets:
             self.count += 1
-            options = {"observer": "earth", **words}
+            options = {"observer": observer_of(target, second), **words}
             search: Callable[..., TimeSet] = times
-            columns = self._columns(target, second)
-            self._sets[key] = search(self._files, kind, *columns, **self._of(span, tick), **options)
+            words_of_search = self._words_of((kind, target, second), span, options)
+            self._sets[key] = search(*words_of_search, **self._of(span, tick), **options)
         return self._sets[key]
 
     def moments(

@@ -74,7 +74,7 @@ class Sky(SkyText):
         self._program: Runs = runs_of(program, None)
         self._series: Optional[Series] = None
         self._centres: dict[str, Sky] = {}
-        first, last = self.asked
+        first, last = self.requested_span
         self._span: Span = (
             self.start if first is None else max(self.start, math.floor(first)),
             self.end if last is None else min(self.end, math.ceil(last)),
@@ -148,7 +148,7 @@ class Sky(SkyText):
         """Where a body is seen at seconds since J2000 (TDB): three rows in km on the axes of the text, in doubles."""
         if self._series is None:
             self._series = Series(self)
-        return self._series.seen(self.searches.column(body), "earth", "eq", seconds)
+        return self._series.from_origin(self.searches.column(body), seconds)
 
     def altaz(self, body: str, times: Any) -> tuple[Floats, Floats]:
         """The altitude and the azimuth of a body in degrees, at times of TDB, at astropy's of any scale, or at an array
@@ -170,7 +170,7 @@ class Sky(SkyText):
             if self._source is None:
                 raise ValueError("this sky keeps no source: make it by Ephemeris.sky()")
             bodies = [body for body in ("sun", "moon", *PLANETS) if body in self._source.names]
-            first, last = self.asked
+            first, last = self.requested_span
             words = self._source, None, first, last, Model(axes=axes)
             self._centres[axes] = Sky.of(*words, bodies=bodies, **self._words)
         return self._centres[axes]._part(self._span)
@@ -301,12 +301,12 @@ class Sky(SkyText):
         return made if within is None else made & within
 
     def below_sun(self, kind: str) -> TimeSet:
-        """The times of `dark`, without a warning where there are none."""
+        """The times of `dark`, without a warning if there are none."""
         self._needs_place("dark")
         return self._by_altitude("sun", twilight_of(kind).altitude, "less")
 
     def by_altitude(self, body: str, degrees: float) -> TimeSet:
-        """The times of `above`, without a warning where there are none."""
+        """The times of `above`, without a warning if there are none."""
         self._needs_place("above")
         return self._by_altitude(body, checked_altitude(degrees), "atleast")
 

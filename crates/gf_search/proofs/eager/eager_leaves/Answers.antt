@@ -13,8 +13,7 @@ coarse_leaves-requires-clause-coarser g c κs lives =
     let is = c.is_search.ensures in
     let sound = c.eager_trees_are_sound.ensures.sound s xs is in
     let valid = c.eager_trees_are_sound.ensures.nodes s xs n c.args.walk.now.valid_root in
-    let same : eager_rules c.new-eager.result.search.now c.new-eager.result.stills.now ≡ eager_rules s xs = λ i. eager_rules (c.new-eager.ensures.search i) (c.new-eager.ensures.stills i) in
-    subst (IsCoarser s xs n) (sym same) record {
+    subst (IsCoarser s xs n) (sym c.requires.rules) record {
       valid = valid;
       below = c.the_tree_has_no_more_leaves_than_lie_below.ensures.eager s xs n is c.args.walk.now.valid_root;
       weighed = c.leaves_weigh_enough.ensures.eager s xs (leaves (eager_rules s xs) n) is c.requires.still (c.leaves_cover_the_node.ensures.are_leaves (eager_rules s xs) n sound valid);
@@ -22,6 +21,4 @@ coarse_leaves-requires-clause-coarser g c κs lives =
 
 pub returns-clause-leaves : goal.returns-clause-leaves
 returns-clause-leaves g c =
-    let new = c.new-eager.ensures in
-    let same : eager_rules c.new-eager.result.search.now c.new-eager.result.stills.now ≡ eager_rules c.args.walk.now.search.now c.args.stills.now = λ i. eager_rules (new.search i) (new.stills i) in
-    subst (λ (t : Rules). IfOk c.coarse_leaves.result (λ found. found.items ≡ leaves t c.args.walk.now.root)) same c.coarse_leaves.ensures.leaves
+    subst (λ (t : Rules). IfOk c.coarse_leaves.result (λ found. found.items ≡ leaves t c.args.walk.now.root)) c.requires.rules c.coarse_leaves.ensures.leaves

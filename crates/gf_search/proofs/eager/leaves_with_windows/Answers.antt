@@ -1,11 +1,18 @@
-use Rattle.std.proofs.Common.{List, sym, subst}
+use Rattle.std.proofs.Common.{List, ◌∙◌, ap, sym, subst}
+use Rattle.std.specs.Prelude.{map}
 use Rattle.spec_trees.specs.declared.tree.Leaf.{Leaf}
-use Rattle.spec_trees.specs.Tree.{Covers}
+use Rattle.spec_trees.specs.Tree.{Covers, IsValid}
+use Rattle.spec_searches.specs.Found.{rules}
+use Rattle.spec_searches.specs.Search.{Search}
 use Rattle.spec_stills.specs.Eager.{eager_rules}
+use Rattle.spec_stills.specs.Settled.{settled}
 use Rattle.spec_outcomes.proofs.Following.{all_have_time}
 use Rattle.gf_search.specs.declared.wanted.Wanted.TheVariants.{Windows}
 use Rattle.gf_search.proofs.Windows.{settled_have}
 use Rattle.gf_search.proofs.eager.leaves_with_windows.Goals as goal
+
+pub settled_leaves-requires-clause-valid : goal.settled_leaves-requires-clause-valid
+settled_leaves-requires-clause-valid g c κs lives = subst (λ (s : Search). IsValid (rules s) c.args.walk.now.root) (sym c.new-eager.ensures.search) c.args.walk.now.valid_root
 
 pub settled_leaves-requires-clause-time : goal.settled_leaves-requires-clause-time
 settled_leaves-requires-clause-time g c κs lives =
@@ -24,7 +31,7 @@ returns-in-Ok-clause-windows g c =
     settled_have c.args.walk.now.crew.now.max_leaves s n c.settled_leaves.result.items xs c.in-Ok.found.items
     (c.settled_leaves_have_the_same_windows.ensures.windows s xs n is c.requires.still c.args.walk.now.valid_root)
     (c.settled_leaves_have_the_same_windows.ensures.follow s xs n is c.args.walk.now.valid_root)
-    c.in-Ok.ensures.leaves c.settled_leaves.ensures c.in-Ok.ensures.few
+    c.in-Ok.ensures.leaves (c.settled_leaves.ensures ∙ ap (λ (s : Search). map (settled s n) c.in-Ok.found.items) c.new-eager.ensures.search) c.in-Ok.ensures.few
 
 pub returns-clause-windows : goal.returns-clause-windows
 returns-clause-windows g c = c.tree_leaves.ensures.found Windows

@@ -13,8 +13,7 @@ coarse_leaves-requires-clause-coarser g c κs lives =
     let is = c.is_search.ensures in
     let sound = c.served_trees_are_sound.ensures.sound s xs is in
     let valid = c.served_trees_are_sound.ensures.nodes s xs n c.args.walk.now.valid_root in
-    let same : served_rules c.new-served.result.search.now c.new-served.result.stills.now ≡ served_rules s xs = λ i. served_rules (c.new-served.ensures.search i) (c.new-served.ensures.stills i) in
-    subst (IsCoarser s xs n) (sym same) record {
+    subst (IsCoarser s xs n) (sym c.new-served.ensures.rules) record {
       valid = valid;
       below = c.the_tree_has_no_more_leaves_than_lie_below.ensures.served s xs n is c.requires.still c.args.walk.now.valid_root;
       weighed = c.leaves_weigh_enough.ensures.served s xs (leaves (served_rules s xs) n) is c.requires.still (c.leaves_cover_the_node.ensures.are_leaves (served_rules s xs) n sound valid);
@@ -22,6 +21,4 @@ coarse_leaves-requires-clause-coarser g c κs lives =
 
 pub returns-clause-leaves : goal.returns-clause-leaves
 returns-clause-leaves g c =
-    let new = c.new-served.ensures in
-    let same : served_rules c.new-served.result.search.now c.new-served.result.stills.now ≡ served_rules c.args.walk.now.search.now c.args.stills.now = λ i. served_rules (new.search i) (new.stills i) in
-    subst (λ (t : Rules). IfOk c.coarse_leaves.result (λ found. found.items ≡ leaves t c.args.walk.now.root)) same c.coarse_leaves.ensures.leaves
+    subst (λ (t : Rules). IfOk c.coarse_leaves.result (λ found. found.items ≡ leaves t c.args.walk.now.root)) c.new-served.ensures.rules c.coarse_leaves.ensures.leaves

@@ -1,85 +1,50 @@
-use Rattle.std.proofs.Common.{◌∙◌, ap, sym, subst, w64, ℤ, ◌≤ℤ◌, get_or, arith}
-use Rattle.std.proofs.lemmas.Int.{ints, to_z-of_z}
+use Rattle.std.proofs.Common.{sym, subst, w64, ℤ, ◌≤ℤ◌}
+use Rattle.std.specs.Prelude.{IfOk}
+use Rattle.std.proofs.lemmas.Int.{to_z-of_z}
+use Rattle.std.proofs.lemmas.Result.{IfOk-weaker}
 use Rattle.spec_expressions.specs.Term.{exact_of}
 use Rattle.spec_events.specs.Functions.{IsNotNegative}
+use Rattle.spec_sets.specs.Pairs.{AreOf}
 use Rattle.spec_sets.specs.Points.{point_of}
-use Rattle.spec_sets.specs.Signs.{end_from, sign_of_leaves}
+use Rattle.spec_sets.specs.Signs.{Follow, end_from, sign_of_leaves}
 use Rattle.spec_sets.specs.Spans.{earliest, latest}
 use Rattle.spec_sets.proofs.Points.{point_tells}
 use Rattle.spec_sets.proofs.Sets.{sets_of_true_signs}
 use Rattle.spec_sets.proofs.Telling.{leaves_tell}
-use Rattle.spec_trees.proofs.Placing.{covers_forward}
-use Rattle.gf_sets.specs.Walking.{IsWalked}
-use Rattle.gf_sets.proofs.Leaves.{all_walked, filler, first_are, first_walked, here_after, here_next, here_upto, here_walked, none_before}
-use Rattle.gf_sets.proofs.Pairs.{run_as_read}
 use Rattle.gf_sets.proofs.from_leaves.at_least.Goals as goal
 
-pub sign_at-requires : goal.sign_at-requires
-sign_at-requires g c =
-    let upto = covers_forward c.args.leaves.now c.args.from (end_from c.args.from c.args.leaves.now) c.requires.follow in
-    subst (λ (z : ℤ). g.S.States.fits c.args.states.now z z) (sym (to_z-of_z w64 c.args.from c.ranges.from))
-    (c.requires.fits c.args.from (omega (arith, ints)) upto)
+pub times_at_least-requires-clause-follow : goal.times_at_least-requires-clause-follow
+times_at_least-requires-clause-follow g c = subst (λ (z : ℤ). Follow z c.args.leaves.now) (sym (to_z-of_z w64 c.args.from c.ranges.from)) c.requires.follow
 
-pub add_with_sign-requires-clause-early : goal.add_with_sign-requires-clause-early
-add_with_sign-requires-clause-early g c =
-    subst (λ (z : ℤ). earliest ≤ℤ z) (sym (to_z-of_z w64 c.args.from c.ranges.from)) c.requires.early
+pub times_at_least-requires-clause-early : goal.times_at_least-requires-clause-early
+times_at_least-requires-clause-early g c = subst (λ (z : ℤ). earliest ≤ℤ z) (sym (to_z-of_z w64 c.args.from c.ranges.from)) c.requires.early
 
-pub add_with_sign-requires-clause-after_sure : goal.add_with_sign-requires-clause-after_sure
-add_with_sign-requires-clause-after_sure g c = none_before _ _ c.new.ensures
+pub times_at_least-requires-clause-late : goal.times_at_least-requires-clause-late
+times_at_least-requires-clause-late g c =
+    subst (λ (z : ℤ). end_from z c.args.leaves.now ≤ℤ latest) (sym (to_z-of_z w64 c.args.from c.ranges.from)) c.requires.late
 
-pub add_with_sign-requires-clause-after_maybe : goal.add_with_sign-requires-clause-after_maybe
-add_with_sign-requires-clause-after_maybe g c = none_before _ _ c.new-2.ensures
-
-pub add_with_sign-requires-clause-late : goal.add_with_sign-requires-clause-late
-add_with_sign-requires-clause-late g c =
-    let upto = covers_forward c.args.leaves.now c.args.from (end_from c.args.from c.args.leaves.now) c.requires.follow in
-    let late = c.requires.late in
-    subst (λ (z : ℤ). z ≤ℤ latest) (sym (to_z-of_z w64 c.args.from c.ranges.from)) (omega (arith, ints, upto, late))
-
-pub loop-leaf-init : goal.loop-leaf-init
-loop-leaf-init g c =
-    let point = point_of (g.S.States.answer c.args.states.now) c.args.f.now in
+pub times_at_least-requires-clause-fits : goal.times_at_least-requires-clause-fits
+times_at_least-requires-clause-fits g c = λ t after before.
     let from = to_z-of_z w64 c.args.from c.ranges.from in
-    subst (λ (z : ℤ). IsWalked point z (end_from z c.args.leaves.now) c.args.leaves.now c.args.leaves.now c.add_with_sign.new.self.sure c.add_with_sign.new.self.maybe) (sym from)
-    (first_walked point c.args.from c.args.leaves.now c.add_with_sign.new.self.sure c.add_with_sign.new.self.maybe c.requires.follow
-    (first_are point c.args.from c.args.leaves.now c.sign_at.result c.new.result c.new-2.result c.add_with_sign.new.self.sure c.add_with_sign.new.self.maybe
-    c.new.ensures c.new-2.ensures (c.sign_at.ensures ∙ ap point from)
-    (run_as_read c.sign_at.result c.sign_at.result _ _ c.args.from c.args.from c.new.result c.new-2.result c.add_with_sign.new.self.sure c.add_with_sign.new.self.maybe
-    (λ i. c.sign_at.result) from from c.in_ok-add_with_sign.ensures)))
-
-pub add_leaf-requires-clause-next : goal.add_leaf-requires-clause-next
-add_leaf-requires-clause-next g c =
-    here_next (point_of (g.S.States.answer c.args.states.now) c.args.f.now) _ c.args.from (to_z-of_z w64 c.args.from c.ranges.from) c.args.leaves.now
-    c.loop-leaf.leaf-index c.loop-leaf.pair.sure c.loop-leaf.pair.maybe c.loop-leaf.invariant c.loop-leaf-test.true c.requires.early c.requires.late
-
-pub add_leaf-requires-clause-fits : goal.add_leaf-requires-clause-fits
-add_leaf-requires-clause-fits g c =
-    c.requires.fits (get_or c.args.leaves.now c.loop-leaf.leaf-index filler).node.b
-    (here_after (point_of (g.S.States.answer c.args.states.now) c.args.f.now) _ c.args.from (to_z-of_z w64 c.args.from c.ranges.from) c.args.leaves.now
-    c.loop-leaf.leaf-index c.loop-leaf.pair.sure c.loop-leaf.pair.maybe c.loop-leaf.invariant c.loop-leaf-test.true)
-    (here_upto (point_of (g.S.States.answer c.args.states.now) c.args.f.now) _ c.args.from (to_z-of_z w64 c.args.from c.ranges.from) c.args.leaves.now
-    c.loop-leaf.leaf-index c.loop-leaf.pair.sure c.loop-leaf.pair.maybe c.loop-leaf.invariant c.loop-leaf-test.true)
-
-pub loop-leaf-preserved : goal.loop-leaf-preserved
-loop-leaf-preserved g c =
-    here_walked (point_of (g.S.States.answer c.args.states.now) c.args.f.now) _ c.args.from (to_z-of_z w64 c.args.from c.ranges.from) c.args.leaves.now
-    c.loop-leaf.leaf-index c.loop-leaf.pair.sure c.loop-leaf.pair.maybe c.loop-leaf.invariant c.loop-leaf-test.true
-    c.add_leaf.new.pair.sure c.add_leaf.new.pair.maybe c.in_ok-add_leaf.ensures
+    c.requires.fits t (subst (λ (z : ℤ). z ≤ℤ t) from after) (subst (λ (z : ℤ). t ≤ℤ end_from z c.args.leaves.now) from before)
 
 pub returns-clause-signs : goal.returns-clause-signs
 returns-clause-signs g c =
-    all_walked (point_of (g.S.States.answer c.args.states.now) c.args.f.now) _ c.args.from (to_z-of_z w64 c.args.from c.ranges.from) c.args.leaves.now
-    c.loop-leaf.leaf-index c.loop-leaf.pair.sure c.loop-leaf.pair.maybe c.loop-leaf.invariant c.loop-leaf-test.false
+    subst (λ (z : ℤ). IfOk c.times_at_least.result (λ pair. AreOf (sign_of_leaves (point_of (g.S.States.answer c.args.states.now) c.args.f.now) z c.args.leaves.now)
+    z (end_from z c.args.leaves.now) pair.sure pair.maybe)) (to_z-of_z w64 c.args.from c.ranges.from) c.times_at_least.ensures
 
 pub returns-clause-meets : goal.returns-clause-meets
-returns-clause-meets g c = λ formula told.
+returns-clause-meets g c =
     let point = point_of (g.S.States.answer c.args.states.now) c.args.f.now in
     let upto = end_from c.args.from c.args.leaves.now in
     let meets = IsNotNegative (exact_of (g.S.States.exact c.args.states.now) c.args.f.now) in
-    sets_of_true_signs meets (sign_of_leaves point c.args.from c.args.leaves.now) c.args.from upto c.loop-leaf.pair.sure c.loop-leaf.pair.maybe
-    (all_walked point _ c.args.from (to_z-of_z w64 c.args.from c.ranges.from) c.args.leaves.now c.loop-leaf.leaf-index c.loop-leaf.pair.sure
-    c.loop-leaf.pair.maybe c.loop-leaf.invariant c.loop-leaf-test.false)
+    let signs : IfOk c.times_at_least.result (λ pair. AreOf (sign_of_leaves point c.args.from c.args.leaves.now) c.args.from upto pair.sure pair.maybe) =
+    subst (λ (z : ℤ). IfOk c.times_at_least.result (λ pair. AreOf (sign_of_leaves point z c.args.leaves.now) z (end_from z c.args.leaves.now) pair.sure pair.maybe))
+    (to_z-of_z w64 c.args.from c.ranges.from) c.times_at_least.ensures in
+    IfOk-weaker c.times_at_least.result _ _
+    (λ pair are formula told. sets_of_true_signs meets (sign_of_leaves point c.args.from c.args.leaves.now) c.args.from upto pair.sure pair.maybe are
     (leaves_tell meets point c.args.from upto c.args.leaves.now c.requires.follow told
     (λ t low high. point_tells (g.S.States.exact c.args.states.now) (g.S.States.answer c.args.states.now) c.args.f.now formula.leaves t
     (λ leaf is. g.met.S.States.numbers c.args.states.now leaf t t is (c.requires.fits t low high))
-    (λ leaf is. g.met.S.States.holds c.args.states.now leaf t t is (c.requires.fits t low high))))
+    (λ leaf is. g.met.S.States.holds c.args.states.now leaf t t is (c.requires.fits t low high)))))
+    signs

@@ -10,7 +10,7 @@ use Rattle.still_spans.proofs.TimesHeld.{told}
 use Rattle.still_spans.proofs.still_list.StillList.sign_at.Goals as goal
 
 pub returns-then-time-still : goal.returns-then-time-still
-returns-then-time-still c = λ s still.
+returns-then-time-still c = λ sign tell.
     let time = c.args.time in
     let same = c.deref.ensures.value ∙ c.self.view_is in
     let ordered = subst (λ (xs : List StillSpan). are_in_order xs ≡ true) (sym c.deref.ensures.value) c.self.invariant in
@@ -18,7 +18,7 @@ returns-then-time-still c = λ s still.
     let here = to_z-of_z w64 time c.ranges.time in
     let test = c.if-time-still.true in
     let upto : time ≤ℤ c.span_at-still.result.upto = grind (arith, ints, here, test) in
-    told s c.args.self.now time c.partition_point-count.result c.in-Some.place c.span_at-still.result
+    told sign c.args.self.now time c.partition_point-count.result c.in-Some.place c.span_at-still.result
     (subst (λ (xs : List StillSpan). IsPartitionPoint (λ x. int_le x.from time ≡ true) (λ x. int_le x.from time ≡ false) xs c.partition_point-count.result) same point)
     (subst (λ (xs : List StillSpan). c.partition_point-count.result ≤ length xs) same c.partition_point-count.ensures.bound)
-    c.in-Some.ensures.0 c.in-Some.ensures.1 c.span_at-still.ensures.span upto still
+    c.in-Some.ensures.0 c.in-Some.ensures.1 c.span_at-still.ensures.span upto tell

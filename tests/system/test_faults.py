@@ -2,7 +2,7 @@
 was good before is whole, nothing half-written is left, and standard error names the file and the cause.
 
 A sample of the calls is tried, by the gate too. With FINDER_FAULTS=whole in the environment each call fails once with each
-error, which takes tens of minutes. tests/support/faults.c counts the calls; it needs a C compiler and Linux 5.5 or later."""
+error, which takes tens of minutes. tests/support/faults.c counts the calls; it needs a C compiler and Linux 4.8 or later."""
 
 from __future__ import annotations
 
@@ -125,7 +125,7 @@ class Faults(unittest.TestCase):
         (cls.room / "empty").mkdir()
         words = [cls.faults, "open", "5", "0", "/none", cls.room / "count", shutil.which("true")]
         if subprocess.run(words, check=False).returncode == CANNOT:
-            raise unittest.SkipTest("this system lets no process ask about its calls (seccomp, Linux 5.5)")
+            raise unittest.SkipTest("this system lets no process stop another at its calls (seccomp and ptrace, Linux 4.8)")
         cls.tried = 0
 
     @classmethod

@@ -59,7 +59,8 @@ class Interrupts(unittest.TestCase):
             while True:
                 full += os.write(writing, b" " * 4096)
         except BlockingIOError:
-            refused = subprocess.run([PROGRAM, *SEARCH], cwd=TOP, stdout=writing, stderr=subprocess.PIPE, timeout=120, check=False)
+            how = {"cwd": TOP, "stdout": writing, "stderr": subprocess.PIPE, "timeout": 120}
+            refused = subprocess.run([PROGRAM, *SEARCH], check=False, **how)
             self.assertEqual((refused.returncode, refused.stderr), (5, b"finder: write fault\n"))
             self.assertGreater(full, 0)
         finally:

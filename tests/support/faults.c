@@ -5,7 +5,7 @@
    CALL is `open`, `write`, `rename`, `fsync`, `fork` or `exec`, and ERROR the number of the error. Of files those count
    that lie below FOLDER; K is 0 where no call is to fail. The file COUNT gets the number of calls of this kind. It needs no
    right: the kernel stops each process at such a call (seccomp and ptrace, Linux 4.8 and later). A process that is stopped
-   so takes no signal, so that no call ends by chance.
+   so takes no signal, so that no call ends by chance. A `fork` that a signal ends, and the kernel begins again, counts once.
 
    Status: that of the command, or 128 and its signal; 125 where the kernel does not let it trace. */
 #define _GNU_SOURCE
@@ -29,7 +29,7 @@
 #include <sys/wait.h>
 #include <unistd.h>
 
-enum { CANNOT = 125, MAX_PATH = 4096, MAX_CALLS = 6 };
+enum { CANNOT = 125, MAX_PATH = 4096, MAX_CALLS = 6, MAX_PROCESSES = 1 << 22 };
 
 /* A call at which a process is stopped. */
 struct asked {
@@ -161,13 +161,16 @@ static int is_thread(const struct asked *asked) {
     return asked->number != SYS_fork && asked->number != SYS_vfork && flags & CLONE_THREAD;
 }
 
+/* Of each process, whether it has begun a `fork` that is not made yet. */
+static unsigned char is_forking[MAX_PROCESSES];
+
 /* Whether a call counts. */
 static int counts(const struct asked *asked, const struct kind *kind, const char *folder) {
     char path[MAX_PATH];
     for (const struct call *call = kind->calls; call < kind->calls + MAX_CALLS; call++) {
         if (call->number == asked->number && (call->number || call->argument || call->folder_argument)) {
             if (call->place == NOWHERE) {
-                return strcmp(kind->name, "fork") != 0 || !is_thread(asked);
+                return strcmp(kind->name, "fork") != 0 || (!is_forking[asked->process] && !is_thread(asked));
             }
             return path_of(asked, call, path) && strncmp(path, folder, strlen(folder)) == 0;
         }
@@ -193,9 +196,12 @@ static void fail_call(pid_t process, struct user_regs_struct *registers, int err
     ptrace(PTRACE_SETREGS, process, NULL, registers);
 }
 
-/* Lets a process go on that has stopped, but for a call: with its signal; or it stays stopped as a group. */
+/* Lets a process go on that has stopped: with its signal; or it stays stopped as a group. */
 static void go_on(pid_t process, int status) {
     int event = status >> 16, signal = WSTOPSIG(status);
+    if (event == PTRACE_EVENT_FORK || event == PTRACE_EVENT_VFORK || event == PTRACE_EVENT_CLONE) {
+        is_forking[process] = 0;
+    }
     if (event == PTRACE_EVENT_STOP && signal != SIGTRAP) {
         ptrace(PTRACE_LISTEN, process, NULL, NULL);
     } else {
@@ -215,19 +221,25 @@ static unsigned long watch(pid_t child, const struct kind *kind, char **words, i
         if (process < 0 && errno != EINTR) {
             return count;
         }
-        if (process > 0 && WIFSTOPPED(status)) {
-            struct user_regs_struct registers;
-            struct asked asked;
-            if (status >> 16 == PTRACE_EVENT_SECCOMP && read_call(process, &registers, &asked)) {
-                if (is_begun && counts(&asked, kind, folder) && ++count == failing) {
-                    fail_call(process, &registers, error);
-                }
-                is_begun = 1;
-            }
-            go_on(process, status);
-        } else if (process == child) {
-            *child_status = status;
+        if (process < 0) {
+            continue;
         }
+        if (!WIFSTOPPED(status)) {
+            is_forking[process] = 0;
+            *child_status = process == child ? status : *child_status;
+            continue;
+        }
+        struct user_regs_struct registers;
+        struct asked asked;
+        if (status >> 16 == PTRACE_EVENT_SECCOMP && read_call(process, &registers, &asked)) {
+            int is_failing = is_begun && counts(&asked, kind, folder) && ++count == failing;
+            if (is_failing) {
+                fail_call(process, &registers, error);
+            }
+            is_forking[process] = !is_failing;
+            is_begun = 1;
+        }
+        go_on(process, status);
     }
 }
 

@@ -1,0 +1,46 @@
+"""Two searches of `dev/growth` take the instructions that they took, and the whole of each no more than its halves."""
+
+from __future__ import annotations
+
+import re
+import shutil
+import subprocess
+import sys
+import unittest
+
+from tests.support.tool_runs import SECONDS, TOP
+
+WORDS = ("--seed", "11", "--parts", "2", "2")
+# Of each search: its options, the millions of instructions of the whole, and its ratio to both halves.
+SEARCHES = (
+    ("--kind sepext --target moon --observer sun --cut half --second pluto", 9.9, 0.909),
+    ("--kind apsis --target moon --observer mars --cut half", 6.9, 0.891),
+)
+# How far they may be off: another C library takes some more or fewer.
+MORE, RATIO = 0.1, 0.05
+LINE = re.compile(r" *([0-9.]+) +([0-9.]+)  (--.*)")
+
+
+class Growth(unittest.TestCase):
+    """The work of a search and of its parts, as valgrind counts it."""
+
+    @unittest.skipUnless(shutil.which("valgrind"), "the command valgrind is not on the path")
+    def test_two_searches(self) -> None:
+        words = [sys.executable, "-B", TOP / "dev" / "growth", *WORDS]
+        done = subprocess.run(words, capture_output=True, text=True, timeout=10 * SECONDS, check=False)
+        self.assertEqual(done.returncode, 0, done.stderr)
+        *lines, last = done.stdout.splitlines()
+        self.assertEqual(len(lines), len(SEARCHES), done.stdout)
+        for line, (options, millions, ratio) in zip(lines, SEARCHES):
+            with self.subTest(options):
+                found = LINE.fullmatch(line)
+                assert found, line
+                self.assertEqual(found[3], options)
+                self.assertAlmostEqual(float(found[2]), millions, delta=MORE * millions)
+                self.assertAlmostEqual(float(found[1]), ratio, delta=RATIO)
+        greatest = max(float(line.split()[0]) for line in lines)
+        self.assertEqual(last, f"greatest {greatest:.3f} of 2 searches in 2 parts, seed 11")
+
+
+if __name__ == "__main__":
+    unittest.main()

@@ -26,7 +26,7 @@ class Growth(unittest.TestCase):
 
     @unittest.skipUnless(shutil.which("valgrind"), "the command valgrind is not on the path")
     def test_two_searches(self) -> None:
-        words = [sys.executable, "-B", TOP / "dev" / "growth", *WORDS]
+        words = [sys.executable, "-B", str(TOP / "dev" / "growth"), *WORDS]
         done = subprocess.run(words, capture_output=True, text=True, timeout=10 * SECONDS, check=False)
         self.assertEqual(done.returncode, 0, done.stderr)
         *lines, last = done.stdout.splitlines()

@@ -1,4 +1,4 @@
-"""Two searches of `dev/growth` take the instructions that they took, and the whole of each no more than its halves."""
+"""Two searches of `dev/growth` take no more instructions than they took, and the whole of each no more than its halves."""
 
 from __future__ import annotations
 
@@ -11,13 +11,14 @@ import unittest
 from tests.support.tool_runs import SECONDS, TOP
 
 WORDS = ("--seed", "11", "--parts", "2", "2")
-# Of each search: its options, the millions of instructions of the whole, and its ratio to both halves.
+# Of each search: its options, and the most millions of instructions of the whole. The program of 1 December 2026 takes 9.9
+# and 6.9, with the C library of Debian 12; another one takes some more or fewer.
 SEARCHES = (
-    ("--kind sepext --target moon --observer sun --cut half --second pluto", 9.9, 0.909),
-    ("--kind apsis --target moon --observer mars --cut half", 6.9, 0.891),
+    ("--kind sepext --target moon --observer sun --cut half --second pluto", 10.9),
+    ("--kind apsis --target moon --observer mars --cut half", 7.6),
 )
-# How far they may be off: another C library takes some more or fewer.
-MORE, RATIO = 0.1, 0.05
+# The most by which the whole takes its halves; that program's are 0.909 and 0.891. Reading takes no part in it.
+MAX_RATIO = 0.96
 LINE = re.compile(r" *([0-9.]+) +([0-9.]+)  (--.*)")
 
 
@@ -31,13 +32,13 @@ class Growth(unittest.TestCase):
         self.assertEqual(done.returncode, 0, done.stderr)
         *lines, last = done.stdout.splitlines()
         self.assertEqual(len(lines), len(SEARCHES), done.stdout)
-        for line, (options, millions, ratio) in zip(lines, SEARCHES):
+        for line, (options, most) in zip(lines, SEARCHES):
             with self.subTest(options):
                 found = LINE.fullmatch(line)
                 assert found, line
                 self.assertEqual(found[3], options)
-                self.assertAlmostEqual(float(found[2]), millions, delta=MORE * millions)
-                self.assertAlmostEqual(float(found[1]), ratio, delta=RATIO)
+                self.assertTrue(1 < float(found[2]) <= most, line)
+                self.assertTrue(0.5 < float(found[1]) <= MAX_RATIO, line)
         greatest = max(float(line.split()[0]) for line in lines)
         self.assertEqual(last, f"greatest {greatest:.3f} of 2 searches in 2 parts, seed 11")
 

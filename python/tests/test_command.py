@@ -140,7 +140,6 @@ class Output(InFolder):
         self.assertEqual(finder.NoErfa.__bases__, (ImportError,))
 
 
-
 class OfTheProgram(InFolder):
     """The words of the program go to it; what Python makes of its reports."""
 

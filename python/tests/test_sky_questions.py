@@ -10,7 +10,7 @@ import warnings
 import numpy as np
 
 import finder
-from tests.common import YEAR, InFolder
+from tests.common import YEAR
 
 HAS = {name: importlib.util.find_spec(name) is not None for name in ("skyfield", "astropy", "erfa", "pandas")}
 BERLIN = "52.52 N 13.40 E 34 m"

@@ -225,7 +225,9 @@ class Observer(Tasks):
                     same,
                 ),
                 "by pandas Timestamps": (
-                    lambda: finder.apsides(year, "moon", *pandas.date_range("2000-01-01", periods=2, freq="MS", tz="UTC"), **EARTH),
+                    lambda: finder.apsides(
+                        year, "moon", *pandas.date_range("2000-01-01", periods=2, freq="MS", tz="UTC"), **EARTH
+                    ),
                     same,
                 ),
                 "by astropy's": (

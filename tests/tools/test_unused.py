@@ -76,7 +76,12 @@ LISTED = (
     ("low/specs/Numbers.antt", "", "\n-- (thrice)\npub record IsIt : Type 0 where\n  pub it : ℕ\n", ("11: nothing uses IsIt",)),
     ("low/specs/Numbers.antt", "ℕ, ◌+◌", "ℕ, List, ◌*◌, ◌+◌", ("nothing uses the name List", "nothing uses the name ◌*◌")),
     ("low/proofs/Laws.antt", "", "\n    pub by_it : ℕ\n    by_it = 1\n", ("Laws.antt:17: nothing uses by_it",)),
-    ("low/proofs/Laws.antt", "inner = is\n", "inner = is\n\n  one : ℕ\n  one = two\n\n  two : ℕ\n  two = one\n", ("one", "two")),
+    (
+        "low/proofs/Laws.antt",
+        "inner = is\n",
+        "inner = is\n\n  one : ℕ\n  one = two\n\n  two : ℕ\n  two = one\n",
+        ("one", "two"),
+    ),
     ("low/proofs/doubled/Answers.antt", "law 1", "1", ("proofs/Laws.antt:1: nothing uses this file", "the name law")),
     ("low/proofs/doubled/Answers.antt", "goal.returns\n", "1\n", ("Answers.antt:2: nothing uses the name goal",)),
     ("low/src/lib.rt", "Prelude.{", "Prelude.{All, ", ("the name All",)),

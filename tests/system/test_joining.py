@@ -7,13 +7,12 @@ import os
 import re
 import shutil
 import subprocess
-import tempfile
 import unittest
 from collections.abc import Callable
 from pathlib import Path
 from typing import Optional
 
-from tests.support.tool_runs import PROGRAM, TOOLS, TOP, YEAR, InFolder, run_program, run_tool
+from tests.support.tool_runs import PROGRAM, TOOLS, TOP, YEAR, InFolder, folder_of, run_program, run_tool
 
 SEARCHES = {
     "find": "--kind apsis --target moon --observer earth",
@@ -58,9 +57,7 @@ class Joining(InFolder):
 
     @classmethod
     def setUpClass(cls) -> None:
-        folder = tempfile.TemporaryDirectory()
-        cls.addClassCleanup(folder.cleanup)
-        cls.whole = Path(folder.name)
+        cls.whole = folder_of(cls)
         (cls.whole / "plan").write_text(run_tool("spans", "cut", PARTS, YEAR).stdout)
         for command, words in SEARCHES.items():
             for number, line in enumerate((cls.whole / "plan").read_text().splitlines(), 1):

@@ -12,7 +12,7 @@ import unittest
 from pathlib import Path
 
 from tests.support.launcher_repository import EXAMPLE, TOP, make_small_repository
-from tests.support.tool_runs import is_running, wait_until
+from tests.support.tool_runs import folder_of, is_running, wait_until
 
 SECONDS = 120
 # Puts a folder in the place of /dev/null, in a name space of mounts.
@@ -35,9 +35,7 @@ class Launcher(unittest.TestCase):
 
     @classmethod
     def setUpClass(cls) -> None:
-        folder = tempfile.TemporaryDirectory()
-        cls.addClassCleanup(folder.cleanup)
-        cls.copy = Path(folder.name, "copy")
+        cls.copy = folder_of(cls) / "copy"
         make_small_repository(cls.copy)
         cls.wanted = cls.start(cls).stdout
 

@@ -10,13 +10,12 @@ import shutil
 import signal
 import subprocess
 import sys
-import tempfile
 import unittest
 from pathlib import Path
 from unittest import mock
 
 from tests.support.settings import of_the_whole, sample
-from tests.support.tool_runs import PROGRAM, TOOLS, TOP, YEAR, Done, InFolder, contents, run_tool
+from tests.support.tool_runs import PROGRAM, TOOLS, TOP, YEAR, Done, InFolder, contents, folder_of, run_tool
 
 sys.path.insert(0, str(TOP / "python"))
 from finder.publishing.catalogue import Refused  # noqa: E402
@@ -134,7 +133,7 @@ class Published(InFolder):
         self.assertIn("another catalogue", published(other, begun, YEAR).stderr)
 
     def test_catalogues_that_are_refused(self) -> None:
-        for line, why in (
+        rows = (
             (b"", "has no search"),
             (b"Moon --kind apsis", "small letters"),
             (b"\x1b[31m --kind apsis", "hyphens: \\x1b[31m\n"),
@@ -148,7 +147,8 @@ class Published(InFolder):
             (b"moon --kind apsis --target moon --observer earth\r", "catalogue line 1: it has a carriage return"),
             (b"moon --kind apsis --target m\0oon", "catalogue line 1: it has a NUL"),
             (b"moon --kind apsis --target \xff", "is no UTF-8"),
-        ):
+        )
+        for line, why in sample(rows, 4):
             with self.subTest(line):
                 self.catalogue.write_bytes(line + b"\n")
                 done = published(self.catalogue, self.folder / "none", YEAR)
@@ -157,7 +157,7 @@ class Published(InFolder):
                 shutil.rmtree(self.folder / "none", ignore_errors=True)
 
     def test_files_that_are_refused(self) -> None:
-        for name in ("-", "a\nb", "a\rb", "a\\b", "\x1b[31mred"):
+        for name in sample(("-", "a\nb", "a\rb", "a\\b", "\x1b[31mred"), 4):
             with self.subTest(name):
                 shutil.copy(YEAR, self.folder / name)
                 done = published("catalogue", "none", "--", name, cwd=self.folder)
@@ -173,11 +173,11 @@ class Published(InFolder):
         self.catalogue.write_text(TWO)
         on_path = {"FINDER": PROGRAM.name, "PATH": f"{PROGRAM.parent}:/usr/bin:/bin"}
         self.assertEqual(published(self.catalogue, self.folder / "path", YEAR, **on_path).returncode, 0)
-        for jobs in ("0", "65", "many"):
+        for jobs in sample(("0", "65", "many"), 3):
             done = published("--jobs", jobs, self.catalogue, self.folder / "none", YEAR)
             self.assertEqual(done.returncode, 2)
             self.assertIn(f"from 1 to 64: {jobs}\n", done.stderr)
-        for seal in ((), ("--seal", "0" * 63), ("--seal", "f" * 63 + "F")):
+        for seal in sample(((), ("--seal", "0" * 63), ("--seal", "f" * 63 + "F")), 3):
             done = run_tool("publish", "--check", *seal, self.folder / "path", YEAR)
             self.assertEqual((done.returncode, done.stdout), (2, ""), done.stderr)
 
@@ -213,10 +213,9 @@ class Checked(InFolder):
 
     @classmethod
     def setUpClass(cls) -> None:
-        folder = tempfile.TemporaryDirectory()
-        cls.addClassCleanup(folder.cleanup)
-        cls.whole = Path(folder.name, "whole")
-        catalogue = Path(folder.name, "catalogue")
+        folder = folder_of(cls)
+        cls.whole = folder / "whole"
+        catalogue = folder / "catalogue"
         catalogue.write_text(TWO)
         done = published(catalogue, cls.whole, YEAR)
         assert done.returncode == 0, done.stderr
@@ -264,7 +263,8 @@ class Checked(InFolder):
     def test_junk_in_a_certificate_under_new_sums(self) -> None:
         certificate, report = self.made / "great.cert", self.made / "great.report"
         whole = certificate.read_bytes()
-        for text in (b"", b"junk\n", whole + b"junk\n", whole[:-10], whole.replace(b" N\n", b" R\n", 1)):
+        texts = (b"", b"junk\n", whole + b"junk\n", whole[:-10], whole.replace(b" N\n", b" R\n", 1))
+        for text in sample(texts, 4):
             certificate.write_bytes(text)
             for said in (b"", report.read_bytes()):
                 report.write_bytes(said)

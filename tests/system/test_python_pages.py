@@ -74,7 +74,8 @@ class Package(unittest.TestCase):
     def test_types(self) -> None:
         with tempfile.TemporaryDirectory() as folder:
             words = ["-m", "mypy", "--config-file", "python/pyproject.toml", "--cache-dir", str(Path(folder, "types"))]
-            done = subprocess.run([sys.executable, *words, "python/finder"], cwd=TOP, capture_output=True, text=True, check=False)
+            words = [sys.executable, *words, "python/finder"]
+            done = subprocess.run(words, cwd=TOP, capture_output=True, text=True, check=False)
         self.assertEqual(done.returncode, 0, done.stdout + done.stderr)
 
     def test_pictures_show_the_great_conjunction(self) -> None:

@@ -6,7 +6,6 @@ import os
 import re
 import shutil
 import subprocess
-import tempfile
 import time
 import unittest
 from pathlib import Path
@@ -14,6 +13,7 @@ from pathlib import Path
 from tests.support.case_runs import COMPILERS, needs_devices
 from tests.support.records import listed_counts, read_cases
 from tests.support.settings import TOP, of_the_whole
+from tests.support.tool_runs import folder_of
 
 COPIED = ("VERSION", "test", "tests", ".ci", "release", "crates.txt", "crates", "dev", "docs", "finder", "examples")
 PROGRAM = "release/finder-x86_64-linux"
@@ -37,9 +37,7 @@ class Refusals(unittest.TestCase):
 
     @classmethod
     def setUpClass(cls):
-        place = tempfile.TemporaryDirectory()
-        cls.addClassCleanup(place.cleanup)
-        cls.room = Path(place.name)
+        cls.room = folder_of(cls)
         cls.copy = cls.room / "copy"
         cls.copy.mkdir()
         for name in COPIED:

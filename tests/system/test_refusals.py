@@ -8,7 +8,6 @@ import shutil
 import subprocess
 import time
 import unittest
-from pathlib import Path
 
 from tests.support.case_runs import COMPILERS, needs_devices
 from tests.support.records import listed_counts, read_cases

@@ -12,6 +12,7 @@ from collections.abc import Callable
 from pathlib import Path
 from typing import Optional
 
+from tests.support.settings import sample
 from tests.support.tool_runs import PROGRAM, TOOLS, TOP, YEAR, InFolder, folder_of, run_program, run_tool
 
 SEARCHES = {
@@ -87,7 +88,7 @@ class Joining(InFolder):
             self.assertEqual(self.join(command).stdout.encode(), run_program(command, *words.split(), YEAR))
 
     def test_each_damage_of_each_part(self) -> None:
-        for place, (name, (change, line)) in enumerate(DAMAGE.items()):
+        for place, (name, (change, line)) in sample(enumerate(DAMAGE.items()), 4):
             command = list(SEARCHES)[place % len(SEARCHES)]
             number = place % PARTS + 1
             part = self.folder / f"{command}-{number}"

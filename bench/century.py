@@ -143,7 +143,8 @@ def row(search, reading):
 
 
 HEAD = """\
-| Search | finder, 1 worker | 4 workers | 1, without reading | Certain | Undecided | Step | C | Events | Missed | Too many | Ratio |
+| Search | finder, 1 worker | 4 workers | 1, without reading | Certain | Undecided | Step | C | Events | Missed | Too many |\
+ Ratio |
 |---|---|---|---|---|---|---|---|---|---|---|---|"""
 
 

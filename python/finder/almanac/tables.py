@@ -51,7 +51,7 @@ def shown_times(found: Almanac, clock: Clock) -> Clock:
 def _exact_times(found: Almanac, clock: Clock) -> Clock:
     """The clock, ready for the milliseconds of entries and contacts, and of what stands in the tables of days and
     weeks."""
-    seconds = [entry.seconds for entry in found.entries]
+    seconds: list[float] = [entry.seconds for entry in found.entries]
     seconds += [contact.seconds for entry in found.entries for contact in entry.contacts]
     seconds += [moment.seconds for _, moment in _daily(found)]
     return ReadyClock.of_times(clock, [each + 5e-4 for each in seconds])

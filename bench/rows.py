@@ -5,7 +5,8 @@
 
 reads what measurements printed from standard input. A table whose head DOCUMENT has too gives its rows: each replaces
 the row of DOCUMENT's table with the same first cell, or comes last where there is none. All else that was printed is passed
-over. It prints what it did, and ends with 1 if no table was found.
+over. It prints the rows that were replaced, which belong into the history, and how many it wrote. It ends with 1 if no
+table was found.
 """
 
 import datetime
@@ -51,12 +52,14 @@ def tables(lines):
             yield at, end
 
 
-def replaced(page, head, new):
-    """The lines of a page with these rows in its table of this head, or None if it has none."""
+def put(page, head, new):
+    """Puts rows into the table of a page with this head, and returns which it replaces, or None if there is no such table."""
     for at, end in tables(page):
         if page[at] == head:
-            rows = {first_cell(line): line for line in [*page[at + 2 : end], *new]}
-            return page[: at + 2] + list(rows.values()) + page[end:]
+            old = page[at + 2 : end]
+            rows = {first_cell(line): line for line in [*old, *new]}
+            page[at + 2 : end] = rows.values()
+            return [line for line in old if line not in page]
     return None
 
 
@@ -67,9 +70,9 @@ def main(document):
     printed = sys.stdin.read().split("\n")
     count = 0
     for at, end in tables(printed):
-        changed = replaced(page, printed[at], printed[at + 2 : end])
-        if changed is not None:
-            page = changed
+        old = put(page, printed[at], printed[at + 2 : end])
+        if old is not None:
+            print(*old, sep="\n", end="\n" * bool(old))
             count += end - at - 2
     if not count:
         sys.exit(f"rows.py: nothing that was printed has the head of a table of {document}")

@@ -204,7 +204,7 @@ def show_rows(searches, check, by_c, unit, stamped):
         [f"{whole}: median of the ratios", "", *(median(searches, reader) for reader in READERS)],
         [f"{whole}: worst ratio", "", *(worst(searches, reader) for reader in READERS)],
         [f"{whole}: searches that take longer than C", "", *(slower(searches, reader) for reader in READERS)],
-        [f"{years}: a reading alone", total([check]), *(total([by_c[reader]]) for reader in READERS)],
+        [f"{years}: a reading alone", *(f"{1000 * run.processor:.0f} ms" for run in (check, *by_c.values()))],
     ]
     show(["What", "`finder`", *READERS.values(), "Date", "Machine", "Program"], [[*row, *stamped] for row in rows])
 

@@ -89,7 +89,7 @@ def is_running(process_id):
     return state != "Z"
 
 
-def wait_for(condition, seconds=20):
+def wait_for(condition, seconds=120):
     """Waits until a condition holds, or the time is over; whether it does."""
     end = time.monotonic() + seconds
     while not condition() and time.monotonic() < end:

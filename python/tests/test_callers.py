@@ -11,7 +11,9 @@ from tests.common import TOP, YEAR, InFolder, is_running, of_the_whole, stand_in
 
 # A search as a stand-in: it writes the numbers of its own process and of one that it started, as the launcher starts
 # a proof, and goes on.
-ENDLESS = "/bin/sleep 60 &\necho $$ $! >>processes\nwait"
+ENDLESS = "/bin/sleep 600 &\necho $$ $! >>processes\nwait"
+# The most seconds for which an end is waited for: a machine may be busy.
+LIMIT = 120
 ONE = "import finder; finder.check({year!r}, program={program!r})"
 PARTS = "import finder; finder.over_files(finder.apsides, [{year!r}] * 2, 'earth', observer='sun', program={program!r})"
 POOL = """
@@ -38,9 +40,10 @@ except finder.Interrupted as error:
     print(error.status)
 """
 THREAD = """
-import threading, time, finder
+import os, threading, time, finder
 threading.Thread(target=finder.check, args=({year!r},), kwargs={{"program": {program!r}}}, daemon=True).start()
-time.sleep({seconds})
+while {goes_on} or not (os.path.exists("processes") and os.path.getsize("processes")):
+    time.sleep(0.01)
 """
 FORKED = """
 import os, time, finder
@@ -96,14 +99,14 @@ class Callers(InFolder):
             return []
 
     def assert_none_left(self):
-        self.assertTrue(wait_for(lambda: not any(map(is_running, self.processes())), 10), self.processes())
+        self.assertTrue(wait_for(lambda: not any(map(is_running, self.processes()))), self.processes())
 
     def end(self, text, number, **how):
         """Ends Python by this signal, and sees to it that no process is left."""
         caller = self.begin(text, **how)
         self.assertTrue(all(map(is_running, self.processes())))
         caller.send_signal(number)
-        self.assertEqual(caller.wait(20), -number)
+        self.assertEqual(caller.wait(LIMIT), -number)
         self.assert_none_left()
 
     def test_sigterm(self):
@@ -116,7 +119,7 @@ class Callers(InFolder):
         self.end(ONE, signal.SIGKILL)
 
     def test_a_search_of_a_thread(self):
-        self.end(THREAD, signal.SIGKILL, seconds=300)
+        self.end(THREAD, signal.SIGKILL, goes_on=True)
 
     def test_searches_in_parts(self):
         self.end(PARTS, signal.SIGKILL)
@@ -127,14 +130,14 @@ class Callers(InFolder):
             with self.subTest(text=text, number=number):
                 self.end(text, number, path="")
                 (self.folder / "processes").unlink()
-        self.end(THREAD, signal.SIGKILL, path="", seconds=300)
+        self.end(THREAD, signal.SIGKILL, path="", goes_on=True)
 
     @of_the_whole
     def test_workers_of_a_pool_whose_parent_is_gone(self):
         for method in ("fork", "spawn", "forkserver"):
             with self.subTest(method):
                 self.end(POOL, signal.SIGKILL, count=4, method=method)
-                self.assertTrue(wait_for(lambda: not self.workers(), 10), self.workers())
+                self.assertTrue(wait_for(lambda: not self.workers()), self.workers())
                 (self.folder / "processes").unlink()
 
     def workers(self):
@@ -156,7 +159,7 @@ class Callers(InFolder):
         self.assertEqual(done.stdout, f"12\nfinder: read fault /none\n{-signal.SIGKILL}\n", done.stderr)
 
     def test_a_thread_that_is_left(self):
-        self.assertEqual(self.begin(THREAD, seconds=1).wait(20), 0)
+        self.assertEqual(self.begin(THREAD, goes_on=False).wait(LIMIT), 0)
         self.assert_none_left()
 
     def test_a_process_that_was_forked_lives_on(self):

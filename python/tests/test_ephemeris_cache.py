@@ -66,7 +66,7 @@ class Cache(InCache):
     def test_killed_in_the_middle(self):
         """A process that is killed while it writes leaves no text, and the next one makes it whole."""
         slow = (
-            f"from finder.ephemeris import cache; import os, time; cache.os.fsync = lambda _: time.sleep(60); {OPENS}"
+            f"from finder.ephemeris import cache; import os, time; cache.os.fsync = lambda _: time.sleep(600); {OPENS}"
         )
         process = self.process("-c", slow, str(YEAR))
         home = self.folder / "cache"

@@ -153,7 +153,7 @@ class Stops(InFolder):
         super().setUp()
         self.number = self.folder / "number"
         self.slow = stand_in(
-            self.folder, f"echo $$ >{self.number}.new; mv {self.number}.new {self.number}; exec sleep 100"
+            self.folder, f"echo $$ >{self.number}.new; mv {self.number}.new {self.number}; exec sleep 600"
         )
 
     def process(self):
@@ -162,7 +162,7 @@ class Stops(InFolder):
 
     def test_a_time_that_is_over(self):
         with self.assertRaises(finder.TimedOut) as caught:
-            finder.check(YEAR, program=self.slow, timeout=1)
+            finder.check(YEAR, program=self.slow, timeout=3)
         self.assertIsInstance(caught.exception, TimeoutError)
         self.assertTrue(wait_for(lambda: not is_running(self.process())))
 
@@ -189,7 +189,7 @@ class Stops(InFolder):
             process = self.process()
             self.assertTrue(is_running(process))
             caller.send_signal(signal.SIGINT)
-            _, said = caller.communicate(timeout=20)
+            _, said = caller.communicate(timeout=120)
             self.assertIn(b"KeyboardInterrupt", said)
             self.assertTrue(wait_for(lambda: not is_running(process)))
 

@@ -17,7 +17,7 @@ SOURCE = Path(__file__).resolve().parent / "devices.c"
 SEARCHES = (b"find", b"cert", b"verify", b"gen", b"set", b"scalar")
 # By how many workers a search is run, besides the run of its case as it stands.
 WORKERS = (1, 2, 7, 64)
-MAX_SECONDS = 60
+MAX_SECONDS = 120
 COMPILERS = ("cc", "gcc", "clang")
 VARIABLES = {"shelf": "FINDER_SHELF", "out-sink": "FINDER_OUT_SINK", "err-sink": "FINDER_ERR_SINK"}
 

@@ -4,9 +4,10 @@
 
    CALL is `open`, `write`, `rename`, `fsync`, `fork` or `exec`, and ERROR the number of the error. Of files those count
    that lie below FOLDER; K is 0 where no call is to fail. The file COUNT gets the number of calls of this kind. It needs no
-   right: the kernel asks this process about each such call (seccomp, Linux 5.5 and later).
+   right: the kernel stops each process at such a call (seccomp and ptrace, Linux 4.8 and later). A process that is stopped
+   so takes no signal, so that no call ends by chance. A `fork` that a signal ends, and the kernel begins again, counts once.
 
-   Status: that of the command, or 128 and its signal; 125 where the kernel does not know such questions. */
+   Status: that of the command, or 128 and its signal; 125 where the kernel does not let it trace. */
 #define _GNU_SOURCE
 #include <errno.h>
 #include <fcntl.h>
@@ -14,22 +15,28 @@
 #include <linux/filter.h>
 #include <linux/sched.h>
 #include <linux/seccomp.h>
-#include <poll.h>
 #include <signal.h>
 #include <stddef.h>
 #include <stdint.h>
 #include <stdio.h>
 #include <stdlib.h>
 #include <string.h>
-#include <sys/ioctl.h>
 #include <sys/prctl.h>
-#include <sys/socket.h>
+#include <sys/ptrace.h>
 #include <sys/syscall.h>
 #include <sys/uio.h>
+#include <sys/user.h>
 #include <sys/wait.h>
 #include <unistd.h>
 
-enum { CANNOT = 125, MAX_PATH = 4096, MAX_CALLS = 6 };
+enum { CANNOT = 125, MAX_PATH = 4096, MAX_CALLS = 6, MAX_PROCESSES = 1 << 22 };
+
+/* A call at which a process is stopped. */
+struct asked {
+    pid_t process;
+    long number;
+    unsigned long long arguments[6];
+};
 
 /* Where a call names its file: a path with the folder that it is relative to, or an open file; or it names none. */
 enum place { PATH, FILE_NUMBER, NOWHERE };
@@ -72,8 +79,8 @@ static const struct kind *kind_of(const char *name) {
     exit(CANNOT);
 }
 
-/* Has the kernel ask about the calls of this kind; the file by which it asks, or -1. */
-static int begin_asking(const struct kind *kind) {
+/* Has the kernel stop this process, and those that it starts, at the calls of this kind: 0 where it does. */
+static int begin_stopping(const struct kind *kind) {
     struct sock_filter filter[2 * MAX_CALLS + 8];
     unsigned short count = 0;
     filter[count++] = (struct sock_filter)BPF_STMT(BPF_LD | BPF_W | BPF_ABS, offsetof(struct seccomp_data, arch));
@@ -83,40 +90,12 @@ static int begin_asking(const struct kind *kind) {
     for (const struct call *call = kind->calls; call < kind->calls + MAX_CALLS; call++) {
         if (call->number || call->argument || call->folder_argument) {
             filter[count++] = (struct sock_filter)BPF_JUMP(BPF_JMP | BPF_JEQ | BPF_K, (unsigned)call->number, 0, 1);
-            filter[count++] = (struct sock_filter)BPF_STMT(BPF_RET | BPF_K, SECCOMP_RET_USER_NOTIF);
+            filter[count++] = (struct sock_filter)BPF_STMT(BPF_RET | BPF_K, SECCOMP_RET_TRACE);
         }
     }
     filter[count++] = (struct sock_filter)BPF_STMT(BPF_RET | BPF_K, SECCOMP_RET_ALLOW);
     struct sock_fprog program = {count, filter};
-    if (prctl(PR_SET_NO_NEW_PRIVS, 1, 0, 0, 0)) {
-        return -1;
-    }
-    return (int)syscall(SYS_seccomp, SECCOMP_SET_MODE_FILTER, SECCOMP_FILTER_FLAG_NEW_LISTENER, &program);
-}
-
-/* Sends an open file to the process at the other end of a pair of sockets. */
-static int send_file(int pair, int file) {
-    char control[CMSG_SPACE(sizeof file)] = {0}, byte = 0;
-    struct iovec bytes = {&byte, 1};
-    struct msghdr message = {.msg_iov = &bytes, .msg_iovlen = 1, .msg_control = control, .msg_controllen = sizeof control};
-    struct cmsghdr *head = CMSG_FIRSTHDR(&message);
-    head->cmsg_level = SOL_SOCKET;
-    head->cmsg_type = SCM_RIGHTS;
-    head->cmsg_len = CMSG_LEN(sizeof file);
-    memcpy(CMSG_DATA(head), &file, sizeof file);
-    return sendmsg(pair, &message, 0) == 1 ? 0 : -1;
-}
-
-/* The open file that the other process sends, or -1. */
-static int take_file(int pair) {
-    int file = -1;
-    char control[CMSG_SPACE(sizeof file)], byte;
-    struct iovec bytes = {&byte, 1};
-    struct msghdr message = {.msg_iov = &bytes, .msg_iovlen = 1, .msg_control = control, .msg_controllen = sizeof control};
-    if (recvmsg(pair, &message, MSG_CMSG_CLOEXEC) == 1 && CMSG_FIRSTHDR(&message)) {
-        memcpy(&file, CMSG_DATA(CMSG_FIRSTHDR(&message)), sizeof file);
-    }
-    return file;
+    return prctl(PR_SET_NO_NEW_PRIVS, 1, 0, 0, 0) || prctl(PR_SET_SECCOMP, SECCOMP_MODE_FILTER, &program);
 }
 
 /* Copies a text of another process: 0 where it has none there. */
@@ -148,9 +127,9 @@ static int lead_of(pid_t process, const char *entry, int number, char *path) {
 }
 
 /* The path of the file that a call names: 0 where it cannot be told. */
-static int path_of(const struct seccomp_notif *asked, const struct call *call, char *path) {
-    pid_t process = (pid_t)asked->pid;
-    const unsigned long long *arguments = (const unsigned long long *)asked->data.args;
+static int path_of(const struct asked *asked, const struct call *call, char *path) {
+    pid_t process = asked->process;
+    const unsigned long long *arguments = asked->arguments;
     if (call->place == FILE_NUMBER) {
         return lead_of(process, "fd", (int)arguments[call->argument], path);
     }
@@ -171,24 +150,27 @@ static int path_of(const struct seccomp_notif *asked, const struct call *call, c
 }
 
 /* Whether a call makes a thread. */
-static int is_thread(const struct seccomp_notif *asked) {
-    unsigned long long flags = asked->data.args[0];
-    if (asked->data.nr == SYS_clone3) {
+static int is_thread(const struct asked *asked) {
+    unsigned long long flags = asked->arguments[0];
+    if (asked->number == SYS_clone3) {
         struct iovec here = {&flags, sizeof flags}, there = {(void *)(uintptr_t)flags, sizeof flags};
-        if (process_vm_readv((pid_t)asked->pid, &here, 1, &there, 1, 0) != sizeof flags) {
+        if (process_vm_readv(asked->process, &here, 1, &there, 1, 0) != sizeof flags) {
             return 1;
         }
     }
-    return asked->data.nr != SYS_fork && asked->data.nr != SYS_vfork && flags & CLONE_THREAD;
+    return asked->number != SYS_fork && asked->number != SYS_vfork && flags & CLONE_THREAD;
 }
 
+/* Of each process, whether it has begun a `fork` that is not made yet. */
+static unsigned char is_forking[MAX_PROCESSES];
+
 /* Whether a call counts. */
-static int counts(const struct seccomp_notif *asked, const struct kind *kind, const char *folder) {
+static int counts(const struct asked *asked, const struct kind *kind, const char *folder) {
     char path[MAX_PATH];
     for (const struct call *call = kind->calls; call < kind->calls + MAX_CALLS; call++) {
-        if (call->number == asked->data.nr && (call->number || call->argument || call->folder_argument)) {
+        if (call->number == asked->number && (call->number || call->argument || call->folder_argument)) {
             if (call->place == NOWHERE) {
-                return strcmp(kind->name, "fork") != 0 || !is_thread(asked);
+                return strcmp(kind->name, "fork") != 0 || (!is_forking[asked->process] && !is_thread(asked));
             }
             return path_of(asked, call, path) && strncmp(path, folder, strlen(folder)) == 0;
         }
@@ -196,67 +178,101 @@ static int counts(const struct seccomp_notif *asked, const struct kind *kind, co
     return 0;
 }
 
-/* Answers the kernel until no process is left, and returns how many calls counted. */
-static unsigned long answer(int listener, const struct kind *kind, const char *folder, int error, unsigned long failing) {
-    unsigned long count = 0;
-    /* (the first `exec` is that of the command itself) */
-    int is_begun = strcmp(kind->name, "exec") != 0;
-    for (;;) {
-        struct pollfd wait = {listener, POLLIN, 0};
-        if (poll(&wait, 1, -1) < 0 && errno != EINTR) {
-            return count;
-        }
-        if (!(wait.revents & POLLIN)) {
-            if (wait.revents & (POLLHUP | POLLERR)) {
-                return count;
-            }
-            continue;
-        }
-        struct seccomp_notif asked;
-        memset(&asked, 0, sizeof asked);
-        if (ioctl(listener, SECCOMP_IOCTL_NOTIF_RECV, &asked)) {
-            continue;
-        }
-        struct seccomp_notif_resp response = {.id = asked.id, .flags = SECCOMP_USER_NOTIF_FLAG_CONTINUE};
-        if (is_begun && counts(&asked, kind, folder) && ++count == failing) {
-            response.flags = 0;
-            response.error = -error;
-        }
-        is_begun = 1;
-        ioctl(listener, SECCOMP_IOCTL_NOTIF_SEND, &response);
+/* The call at which a process is stopped, and its registers: 0 where it is gone. */
+static int read_call(pid_t process, struct user_regs_struct *registers, struct asked *asked) {
+    if (ptrace(PTRACE_GETREGS, process, NULL, registers)) {
+        return 0;
+    }
+    *asked = (struct asked){process,
+                            (long)registers->orig_rax,
+                            {registers->rdi, registers->rsi, registers->rdx, registers->r10, registers->r8, registers->r9}};
+    return 1;
+}
+
+/* Has the call at which a process is stopped fail, without being made. */
+static void fail_call(pid_t process, struct user_regs_struct *registers, int error) {
+    registers->orig_rax = (unsigned long long)-1;
+    registers->rax = (unsigned long long)-error;
+    ptrace(PTRACE_SETREGS, process, NULL, registers);
+}
+
+/* Lets a process go on that has stopped: with its signal; or it stays stopped as a group. */
+static void go_on(pid_t process, int status) {
+    int event = status >> 16, signal = WSTOPSIG(status);
+    if (event == PTRACE_EVENT_FORK || event == PTRACE_EVENT_VFORK || event == PTRACE_EVENT_CLONE) {
+        is_forking[process] = 0;
+    }
+    if (event == PTRACE_EVENT_STOP && signal != SIGTRAP) {
+        ptrace(PTRACE_LISTEN, process, NULL, NULL);
+    } else {
+        ptrace(PTRACE_CONT, process, NULL, (void *)(uintptr_t)(event ? 0 : signal));
     }
 }
 
+/* Lets the calls be made or fail until no process is left, and returns how many counted. */
+static unsigned long watch(pid_t child, const struct kind *kind, char **words, int *child_status) {
+    const char *folder = words[4];
+    int error = atoi(words[2]), status = 0;
+    unsigned long failing = strtoul(words[3], NULL, 10), count = 0;
+    /* (the first `exec` is that of the command itself) */
+    int is_begun = strcmp(kind->name, "exec") != 0;
+    for (;;) {
+        pid_t process = waitpid(-1, &status, __WALL);
+        if (process < 0 && errno != EINTR) {
+            return count;
+        }
+        if (process < 0) {
+            continue;
+        }
+        if (!WIFSTOPPED(status)) {
+            is_forking[process] = 0;
+            *child_status = process == child ? status : *child_status;
+            continue;
+        }
+        struct user_regs_struct registers;
+        struct asked asked;
+        if (status >> 16 == PTRACE_EVENT_SECCOMP && read_call(process, &registers, &asked)) {
+            int is_failing = is_begun && counts(&asked, kind, folder) && ++count == failing;
+            if (is_failing) {
+                fail_call(process, &registers, error);
+            }
+            is_forking[process] = !is_failing;
+            is_begun = 1;
+        }
+        go_on(process, status);
+    }
+}
+
+/* Starts the command once this process is traced, and does not return. */
+static void start(int ready, const struct kind *kind, char **words) {
+    char byte;
+    if (read(ready, &byte, 1) == 1 && begin_stopping(kind) == 0) {
+        execv(words[6], words + 6);
+    }
+    _exit(CANNOT);
+}
+
 int main(int count, char **words) {
-    int pair[2], status = 0;
-    if (count < 7 || socketpair(AF_UNIX, SOCK_STREAM | SOCK_CLOEXEC, 0, pair)) {
+    int ready[2], status = 0;
+    if (count < 7 || pipe2(ready, O_CLOEXEC)) {
         fprintf(stderr, "faults: CALL ERROR K FOLDER COUNT COMMAND..\n");
         return CANNOT;
     }
     const struct kind *kind = kind_of(words[1]);
     pid_t child = fork();
     if (child == 0) {
-        /* (what it sends, no call of its own may wait for) */
-        int listener = begin_asking(kind);
-        if (listener < 0 || send_file(pair[1], listener)) {
-            _exit(CANNOT);
-        }
-        close(listener);
-        execv(words[6], words + 6);
-        _exit(CANNOT);
+        close(ready[1]);
+        start(ready[0], kind, words);
     }
-    close(pair[1]);
-    int listener = take_file(pair[0]);
-    if (listener >= 0) {
-        unsigned long calls = answer(listener, kind, words[4], atoi(words[2]), strtoul(words[3], NULL, 10));
-        FILE *file = fopen(words[5], "w");
-        if (file) {
-            fprintf(file, "%lu\n", calls);
-            fclose(file);
-        }
-    }
-    if (child < 0 || waitpid(child, &status, 0) < 0) {
+    long options = PTRACE_O_TRACESECCOMP | PTRACE_O_TRACEFORK | PTRACE_O_TRACEVFORK | PTRACE_O_TRACECLONE | PTRACE_O_EXITKILL;
+    if (child < 0 || ptrace(PTRACE_SEIZE, child, NULL, options) || write(ready[1], "", 1) != 1) {
         return CANNOT;
+    }
+    unsigned long calls = watch(child, kind, words, &status);
+    FILE *file = fopen(words[5], "w");
+    if (file) {
+        fprintf(file, "%lu\n", calls);
+        fclose(file);
     }
     return WIFSIGNALED(status) ? 128 + WTERMSIG(status) : WEXITSTATUS(status);
 }

@@ -29,5 +29,5 @@ class InSmallRepository(unittest.TestCase):
     def run_tool(self, *words: str) -> tuple[int, list[str]]:
         """Runs the tool: its status, and the lines that it printed."""
         command = [sys.executable, "-B", str(TOP / self.TOOL), "--root", str(self.root), *words]
-        done = subprocess.run(command, check=False, capture_output=True, text=True, encoding="utf-8", timeout=60)
+        done = subprocess.run(command, check=False, capture_output=True, text=True, encoding="utf-8", timeout=120)
         return done.returncode, (done.stdout + done.stderr).splitlines()

@@ -16,7 +16,7 @@ TOP = Path(__file__).resolve().parents[2]
 TOOLS = TOP / "tools"
 PROGRAM = TOP / "release" / "finder-x86_64-linux"
 YEAR = TOP / "examples" / "de405-2000.asc"
-SECONDS = 60
+SECONDS = 120
 
 Done = subprocess.CompletedProcess[str]
 
@@ -54,7 +54,7 @@ def is_running(process: int) -> bool:
         return False
 
 
-def wait_until(holds: Callable[[], bool], seconds: float = 20) -> bool:
+def wait_until(holds: Callable[[], bool], seconds: float = 120) -> bool:
     """Waits until something holds, or the time is over; whether it does."""
     end = time.monotonic() + seconds
     while not holds() and time.monotonic() < end:

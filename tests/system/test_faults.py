@@ -2,7 +2,7 @@
 was good before is whole, nothing half-written is left, and standard error names the file and the cause.
 
 A sample of the calls is tried, by the gate too. With FINDER_FAULTS=whole in the environment each call fails once with each
-error, which takes tens of minutes. tests/support/faults.c counts the calls; it needs a C compiler and Linux 5.5 or later."""
+error, which takes tens of minutes. tests/support/faults.c counts the calls; it needs a C compiler and Linux 4.8 or later."""
 
 from __future__ import annotations
 
@@ -46,6 +46,10 @@ CATALOGUE = "mercury --kind coord --target mercury --axis x\n"
 SMALL = TOP / "examples" / "mercury-crossing.asc"
 APSIS = "--kind apsis --target moon --observer earth"
 PARTS = 2
+# A shell whose children end while it makes the next one; and one that opens three files.
+CHILDREN = 200
+FORKS = f"n=0; while [ $n -lt {CHILDREN} ]; do (:) & n=$((n + 1)); done; wait"
+OPENS = ": >opened; : >opened; : <opened"
 SEARCH = """\
 import sys, finder
 from finder.process.messages import fault_of
@@ -125,7 +129,7 @@ class Faults(unittest.TestCase):
         (cls.room / "empty").mkdir()
         words = [cls.faults, "open", "5", "0", "/none", cls.room / "count", shutil.which("true")]
         if subprocess.run(words, check=False).returncode == CANNOT:
-            raise unittest.SkipTest("this system lets no process ask about its calls (seccomp, Linux 5.5)")
+            raise unittest.SkipTest("this system lets no process stop another at its calls (seccomp and ptrace, Linux 4.8)")
         cls.tried = 0
 
     @classmethod
@@ -195,6 +199,21 @@ class Faults(unittest.TestCase):
             for failing, error in self.chosen(subject, call, whole.calls):
                 with self.subTest(subject.name, call=call, failing=failing, error=errno.errorcode[error]):
                     self.check_run(subject, whole, self.run_once(subject, call, error, failing), call, error)
+
+    def run_shell(self, call: str, error: int, failing: int, text: str) -> "tuple[int, str, int]":
+        """The status of a shell in which a call fails, what it said, and how many calls there were."""
+        count = self.room / "count"
+        words = [self.faults, call, str(error), str(failing), self.room, count, "/bin/sh", "-c", text]
+        done = subprocess.run(words, cwd=self.room, capture_output=True, text=True, timeout=SECONDS, check=False)
+        return done.returncode, done.stderr, int(count.read_text())
+
+    def test_the_call_that_is_named_fails_and_no_other(self) -> None:
+        self.assertEqual(self.run_shell("fork", 0, 0, FORKS), (0, "", CHILDREN))
+        self.assertEqual(self.run_shell("open", 0, 0, OPENS), (0, "", 3))
+        for failing, called in ((1, 1), (2, 2), (3, 3), (4, 3)):
+            status, said, count = self.run_shell("open", errno.EMFILE, failing, OPENS)
+            self.assertEqual((status == 0, count), (failing > 3, called))
+            self.assertEqual(os.strerror(errno.EMFILE) in said, failing <= 3)
 
     def tool(self, name: str, *words: str) -> "list[str]":
         """The words of a run of a tool in Python."""

@@ -30,7 +30,7 @@ class Interrupts(unittest.TestCase):
     def run_with(self, *words: str, **variables: str) -> subprocess.CompletedProcess[bytes]:
         """Runs the program with these words, over devices that these variables describe."""
         environment = dict(os.environ, LD_PRELOAD=str(self.devices), **variables)
-        return subprocess.run([PROGRAM, *words], cwd=TOP, env=environment, capture_output=True, timeout=60, check=False)
+        return subprocess.run([PROGRAM, *words], cwd=TOP, env=environment, capture_output=True, timeout=120, check=False)
 
     def test_each_call_is_interrupted(self) -> None:
         plain = self.run_with(*SEARCH)
@@ -59,7 +59,8 @@ class Interrupts(unittest.TestCase):
             while True:
                 full += os.write(writing, b" " * 4096)
         except BlockingIOError:
-            refused = subprocess.run([PROGRAM, *SEARCH], cwd=TOP, stdout=writing, stderr=subprocess.PIPE, timeout=60, check=False)
+            how = {"cwd": TOP, "stdout": writing, "stderr": subprocess.PIPE, "timeout": 120}
+            refused = subprocess.run([PROGRAM, *SEARCH], check=False, **how)
             self.assertEqual((refused.returncode, refused.stderr), (5, b"finder: write fault\n"))
             self.assertGreater(full, 0)
         finally:

@@ -14,12 +14,12 @@ from pathlib import Path
 from tests.support.launcher_repository import EXAMPLE, TOP, make_small_repository
 from tests.support.tool_runs import is_running, wait_until
 
-SECONDS = 20
+SECONDS = 120
 # A stand-in of the toolchain: it writes its process and that of what it started, and goes on.
 ENDLESS = """\
 #!/bin/sh
 [ "$1" != version ] || exec echo kit
-sleep 60 &
+sleep 600 &
 echo "$$ $!" >>"$RT_PROCESSES"
 trap 'kill "$!"' TERM
 wait

@@ -163,7 +163,7 @@ class Refusals(unittest.TestCase):
         while not list(room.glob("*/finder-cases-*/*")) and process.poll() is None:
             time.sleep(0.01)
         process.terminate()
-        self.assertEqual(process.wait(20), 143)
+        self.assertEqual(process.wait(120), 143)
         self.assertEqual(list(room.iterdir()), [])
 
     def test_words(self):

@@ -49,7 +49,7 @@ class Threads(unittest.TestCase):
         counted = self.folder / "threads"
         counted.write_bytes(b"")
         variables = {**os.environ, "LD_PRELOAD": str(self.library), "FINDER_THREADS": str(counted)}
-        subprocess.run([PROGRAM, *words], env=variables, stdout=subprocess.DEVNULL, timeout=60, check=True)
+        subprocess.run([PROGRAM, *words], env=variables, stdout=subprocess.DEVNULL, timeout=120, check=True)
         return counted.stat().st_size
 
     def test_each_search_starts_the_threads_that_its_workers_are_for(self) -> None:

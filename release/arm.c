@@ -1,4 +1,4 @@
-/* What the program calls of C, beside the C library, on 64-bit ARM. The toolchain has these six functions compiled for
+/* What the program calls of C, beside the C library, on 64-bit ARM. The toolchain has these seven functions compiled for
    x86-64 alone; here they are for ARM, and do the same. No proof covers them: tests/support/arm_functions.c tries each. */
 #include <errno.h>
 #include <stdbool.h>
@@ -39,6 +39,10 @@ void rattle_dealloc(void *place) {
 /* The error of the last call of the C library that failed in this thread. */
 int rattle_errno(void) {
     return errno;
+}
+
+void rattle_set_errno(int error) {
+    errno = error;
 }
 
 /* Keeps the command line; the C library calls it before main. */

@@ -1,4 +1,4 @@
-/* Tries the six functions of release/arm.c, to which it is linked, and ends with status 0 if each does what it is for:
+/* Tries the seven functions of release/arm.c, to which it is linked, and ends with status 0 if each does what it is for:
 
        arm_functions a '' é 'one two'
 
@@ -21,6 +21,7 @@ struct tried rattle_alloc(size_t size, size_t alignment);
 struct tried rattle_realloc(void *place, size_t kept, size_t size, size_t alignment);
 void rattle_dealloc(void *place);
 int rattle_errno(void);
+void rattle_set_errno(int error);
 size_t rattle_arg_count(void);
 ptrdiff_t rattle_arg(size_t number, char *bytes, size_t room);
 
@@ -104,6 +105,8 @@ static void try_errno(void) {
     expect(rattle_errno() == EBADF, "rattle_errno is the error of a read");
     errno = ENOSPC;
     expect(rattle_errno() == ENOSPC && errno == ENOSPC, "rattle_errno is errno, and changes nothing");
+    rattle_set_errno(EACCES);
+    expect(errno == EACCES && rattle_errno() == EACCES, "rattle_set_errno sets errno");
 }
 
 /* Whether a word is put into so many bytes as it has to be, and nothing past them is touched. */

@@ -143,7 +143,10 @@ class OfAPlace(InFolder):
 
     def test_forms(self):
         found = berlin()
-        rows = list(csv.DictReader(io.StringIO(finder.page(found, "csv", BERLIN), newline="")))
+        reader = csv.DictReader(io.StringIO(finder.page(found, "csv", BERLIN), newline=""))
+        rows = list(reader)
+        names = reader.fieldnames or []
+        self.assertEqual(len(names), len(set(names)), names)
         self.assertEqual({row["group"] for row in rows}, {group.value for group in finder.Group})
         for row in rows:
             # (the column of UTC is UTC, and that of the zone the zone's)

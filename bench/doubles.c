@@ -1,14 +1,18 @@
 /* Reading and searching as plain C does it, in doubles. A text is read whole into memory, then its words from left to
-   right: each word that is a number as a whole, with the letter D or E before its exponent, is read by strtod, or its
-   digits eight at a time. Nothing of the layout is checked. In a search a function is evaluated at steps of a time, and
-   where its sign changes from one step to the next, the change is bisected to a second. Nothing bounds an error, and
-   two changes within a step are missed.
+   right: each word that is a number as a whole, with the letter D or E before its exponent, is read by a READER: by
+   strtod, or its digits eight at a time. Both make the same doubles. Nothing of the layout is checked. In a search a
+   function is evaluated at steps of a time, and where its sign changes from one step to the next, the change is bisected
+   to a second. Nothing bounds an error, and two changes within a step are missed.
 
-       doubles reading FILE                      reads FILE and keeps its numbers; prints how many words and numbers there
-                                                 were, and the sum of the numbers' sizes
-       doubles eights FILE                       does the same, and reads the digits of JPL's numbers eight at a time
-       doubles find --step SECONDS OPTIONS FILE  searches FILE, a text of DE405 by JPL, for what the same options of
-                                                 finder ask for; prints the second and the direction of each event */
+       doubles reading READER FILE  reads FILE and keeps its numbers; prints how many words and numbers there were, and the
+                                    sum of the numbers' sizes
+       doubles compare FILE         reads each word by both readers; prints how many numbers there were, how many of them
+                                    eights leaves to strtod, and how many differ in a bit; ends with 1 if one does
+       doubles find --reader READER --step SECONDS OPTIONS FILE
+                                    searches FILE, a text of DE405 by JPL, for what the same options of finder ask for;
+                                    prints the second and the direction of each event
+
+   READER is strtod or eights. */
 #include <math.h>
 #include <stdint.h>
 #include <stdio.h>
@@ -26,10 +30,13 @@ enum { LONGEST = 63 };
 
 static const char BLANKS[] = " \t\r\n";
 
-/* A text in memory, with a zero behind it, and where its words go on. */
-struct text { char *at; };
+/* Reads the number of a word of so many bytes; returns 0 where it is none. */
+typedef int reader(const char *word, size_t length, double *value);
 
-static struct text open_text(const char *name) {
+/* A text in memory, with a zero behind it, where its words go on, and what reads its numbers. */
+struct text { char *at; reader *number; };
+
+static struct text open_text(const char *name, reader *number) {
     FILE *in = fopen(name, "rb");
     if (!in || fseek(in, 0, SEEK_END)) fail("the file cannot be read");
     size_t size = (size_t)ftell(in);
@@ -38,7 +45,7 @@ static struct text open_text(const char *name) {
     if (!bytes || fread(bytes, 1, size, in) != size) fail("the file cannot be read");
     bytes[size] = 0;
     fclose(in);
-    return (struct text) { bytes };
+    return (struct text) { bytes, number };
 }
 
 /* The length of the next word, and where it begins; 0 where there is none. */
@@ -50,8 +57,7 @@ static size_t next_word(struct text *text, const char **word) {
     return length;
 }
 
-/* The number of a word of so many bytes; 0 where it is none. */
-static int number(const char *word, size_t length, double *value) {
+static int by_strtod(const char *word, size_t length, double *value) {
     char text[LONGEST + 1], *end;
     if (length > LONGEST) return 0;
     memcpy(text, word, length);
@@ -62,55 +68,125 @@ static int number(const char *word, size_t length, double *value) {
     return end == text + length;
 }
 
+/* Whether each of eight bytes is a digit: its upper half is 3, and so it is once 6 was added, which takes those past 9 out.
+   With the next function it is the reading of eight digits in simdjson and fast_float. */
+static int are_digits(uint64_t bytes) {
+    const uint64_t upper = 0xF0F0F0F0F0F0F0F0u;
+    return ((bytes & upper) | ((bytes + 0x0606060606060606u) & upper) >> 4) == 0x3333333333333333u;
+}
+
 /* The number that eight digits write: each is joined with the next, and so is what comes of it, twice more. */
-static uint64_t eight_digits(const char *digits) {
-    uint64_t word;
-    memcpy(&word, digits, sizeof word);
-    word -= 0x3030303030303030u;
-    word = word * 10 + (word >> 8);
-    return ((word & 0x000000FF000000FFu) * 0x000F424000000064u + (word >> 16 & 0x000000FF000000FFu) * 0x0000271000000001u)
+static uint64_t eight_digits(uint64_t bytes) {
+    bytes -= 0x3030303030303030u;
+    bytes = bytes * 10 + (bytes >> 8);
+    return ((bytes & 0x000000FF000000FFu) * 0x000F424000000064u + (bytes >> 16 & 0x000000FF000000FFu) * 0x0000271000000001u)
         >> 32;
 }
 
-enum { PLACES = 18, POWERS = 128 };
+enum { PLACES = 18, LEAST_POWER = -99 - PLACES, POWERS = 2 * 99 + 1 };
 
-/* The number of a word as JPL writes it, 0.123456789012345678D+01 and perhaps a minus before it; of another, as above.
-   No digit is checked. It is rounded twice, so now and then its last bit is another than strtod's. */
-static int number_by_eights(const char *word, size_t length, double *value) {
-    static long double powers[POWERS];
-    if (!powers[0]) {
-        powers[0] = 1;
-        for (int i = 1; i < POWERS; i++) powers[i] = powers[i - 1] * 10;
+/* 10^q lies from bits 2^exponent to (bits + 1.1) 2^exponent, and bits has its highest bit. */
+struct power { uint64_t bits; int exponent; };
+
+static struct power powers[POWERS];
+
+static void keep_power(int q, unsigned __int128 five, int exponent) {
+    if (q - LEAST_POWER < 0 || q - LEAST_POWER >= POWERS) return;
+    powers[q - LEAST_POWER] = (struct power) { (uint64_t)(five >> 64), exponent + 64 + q };
+}
+
+/* Powers of five in 128 bits, each made of its neighbour: a step takes off less than 2^-124 of it. */
+static void make_powers(void) {
+    const unsigned __int128 one = (unsigned __int128)1 << 127;
+    unsigned __int128 up = one, down = one;
+    int up_exponent = -127, down_exponent = -127;
+    keep_power(0, one, -127);
+    for (int q = 1; q < POWERS; q++) {
+        up = (up >> 3) * 5;
+        up_exponent += 3;
+        for (; !(up >> 127); up_exponent--) up <<= 1;
+        keep_power(q, up, up_exponent);
+        down /= 5;
+        for (; !(down >> 127); down_exponent--) down <<= 1;
+        keep_power(-q, down, down_exponent);
     }
+}
+
+/* Rounds so many units, 18 digits, times 10^q to the nearest double. Their product with the power's 64 bits is too small by
+   less than 3 in its upper half. Where the half of a last place lies within these 3, it returns 0. So Clinger (How to read
+   floating point numbers accurately, 1990) takes a product that is not near a half, and Lemire (Number parsing at a
+   gigabyte per second, 2021) makes it. */
+static inline int rounded(uint64_t units, int q, uint64_t sign, double *value) {
+    uint64_t bits = sign;
+    if (units) {
+        const struct power *power = &powers[q - LEAST_POWER];
+        int zeros = __builtin_clzll(units);
+        uint64_t upper = (uint64_t)((unsigned __int128)(units << zeros) * power->bits >> 64);
+        int cut = 10 + (int)(upper >> 63);
+        uint64_t low = upper & ((1u << cut) - 1), half = 1u << (cut - 1);
+        if (low <= half && low + 3 > half) return 0;
+        int exponent = power->exponent - zeros + 64 + cut;
+        bits |= ((uint64_t)(exponent + 1074) << 52) + (upper >> cut) + (low > half);
+    }
+    memcpy(value, &bits, sizeof bits);
+    return 1;
+}
+
+/* The number of a word as JPL writes it, 0.123456789012345678D+01 and perhaps a minus before it: the double that is nearest.
+   It returns 0 for another word, and where it cannot tell which double that is. */
+static inline int fast_number(const char *word, size_t length, double *value) {
     int is_below = length && *word == '-';
     const char *p = word + is_below;
-    if (length - (size_t)is_below != 24 || p[0] != '0' || p[1] != '.' || p[20] != 'D') return number(word, length, value);
-    uint64_t size = eight_digits(p + 2) * 10000000000u + eight_digits(p + 10) * 100u
-        + (uint64_t)((p[18] - '0') * 10 + p[19] - '0');
-    int exponent = (p[22] - '0') * 10 + p[23] - '0';
-    exponent = (p[21] == '-' ? -exponent : exponent) - PLACES;
-    long double x = exponent < 0 ? (long double)size / powers[-exponent] : (long double)size * powers[exponent];
-    *value = (double)(is_below ? -x : x);
-    return 1;
+    uint64_t first, second;
+    if (length - (size_t)is_below != 24 || p[0] != '0' || p[1] != '.' || p[20] != 'D') return 0;
+    memcpy(&first, p + 2, sizeof first);
+    memcpy(&second, p + 10, sizeof second);
+    unsigned a = (unsigned)p[18] - '0', b = (unsigned)p[19] - '0', c = (unsigned)p[22] - '0', d = (unsigned)p[23] - '0';
+    int is_minus = p[21] == '-';
+    if (!(are_digits(first) & are_digits(second) & (a < 10) & (b < 10) & (c < 10) & (d < 10) & ((p[21] == '+') | is_minus)))
+        return 0;
+    uint64_t units = eight_digits(first) * 10000000000u + eight_digits(second) * 100u + a * 10 + b;
+    int exponent = (int)(c * 10 + d);
+    return rounded(units, (exponent ^ -is_minus) + is_minus - PLACES, (uint64_t)is_below << 63, value);
+}
+
+static int by_eights(const char *word, size_t length, double *value) {
+    return fast_number(word, length, value) || by_strtod(word, length, value);
 }
 
 static int is_word(const char *word, size_t length, const char *wanted) {
     return length == strlen(wanted) && !memcmp(word, wanted, length);
 }
 
-static int reading(const char *name, int by_eights) {
-    struct text text = open_text(name);
+static int reading(const char *name, reader *number) {
+    struct text text = open_text(name, number);
     size_t room = 1 << 16, numbers = 0, all = 0, length;
     const char *word;
     double *kept = malloc(room * sizeof *kept), sum = 0;
     while ((length = next_word(&text, &word))) {
         if (numbers == room && !(kept = realloc(kept, (room *= 2) * sizeof *kept))) fail("no memory");
-        if ((by_eights ? number_by_eights : number)(word, length, kept + numbers)) numbers++;
+        if (text.number(word, length, kept + numbers)) numbers++;
         all++;
     }
     for (size_t i = 0; i < numbers; i++) sum += fabs(kept[i]);
     printf("words %zu numbers %zu sum %.17g\n", all, numbers, sum);
     return 0;
+}
+
+static int compare(const char *name) {
+    struct text text = open_text(name, by_eights);
+    size_t numbers = 0, left = 0, differ = 0, length;
+    const char *word;
+    while ((length = next_word(&text, &word))) {
+        double a = 0, b = 0;
+        int is_number = by_strtod(word, length, &a);
+        int is_same = by_eights(word, length, &b) == is_number && !memcmp(&a, &b, sizeof a);
+        numbers += (size_t)is_number;
+        left += (size_t)(is_number && !fast_number(word, length, &b));
+        differ += (size_t)!is_same;
+    }
+    printf("numbers %zu, left to strtod %zu, other by eights %zu\n", numbers, left, differ);
+    return differ > 0;
 }
 
 /* ---------- a text of DE405 ---------- */
@@ -126,7 +202,7 @@ static double next_number(struct text *text) {
     const char *word;
     double value;
     size_t length = next_word(text, &word);
-    if (!length || !number(word, length, &value)) fail("a number is missing");
+    if (!length || !text->number(word, length, &value)) fail("a number is missing");
     return value;
 }
 
@@ -190,8 +266,8 @@ static void read_blocks(struct file *f, struct text *text) {
     f->seconds = seconds(f->numbers[1]) - f->start;
 }
 
-static struct file read_file(const char *name) {
-    struct text text = open_text(name);
+static struct file read_file(const char *name, reader *number) {
+    struct text text = open_text(name, number);
     struct file f = { 0 };
     skip_to(&text, "NCOEFF=");
     f.count = (size_t)next_number(&text);
@@ -319,7 +395,12 @@ static const struct { const char *name; int second, velocities; } KINDS[ALL_KIND
 };
 
 /* What is searched for: the value is a coordinate, a distance or a cosine; the radii are those of both bodies. */
-struct search { int kind, target, second, observer, ecliptic, axis; double value, radius1, radius2; long step; };
+struct search {
+    int kind, target, second, observer, ecliptic, axis;
+    double value, radius1, radius2;
+    long step;
+    reader *number;
+};
 
 /* Target and second body as they are seen at a time. */
 struct view { struct state a, b; };
@@ -440,6 +521,11 @@ static int place_among(const char *const *names, int count, const char *name) {
     fail("an option's value is not known");
 }
 
+static reader *reader_of(const char *name) {
+    static const char *const readers[] = { "strtod", "eights" };
+    return place_among(readers, 2, name) ? by_eights : by_strtod;
+}
+
 static void take_option(struct search *s, const char *name, const char *value) {
     static const char *const bodies[BODIES] = { "mercury", "venus", "emb", "mars", "jupiter", "saturn", "uranus",
         "neptune", "pluto", "moon", "sun", "earth", "ssb" };
@@ -455,6 +541,7 @@ static void take_option(struct search *s, const char *name, const char *value) {
     else if (!strcmp(name, "--ref")) s->value = strtod(value, 0);
     else if (!strcmp(name, "--radius1")) s->radius1 = strtod(value, 0);
     else if (!strcmp(name, "--radius2")) s->radius2 = strtod(value, 0);
+    else if (!strcmp(name, "--reader")) s->number = reader_of(value);
     else if (!strcmp(name, "--step")) s->step = strtol(value, 0, 10);
     else fail("an option is not known");
 }
@@ -462,8 +549,8 @@ static void take_option(struct search *s, const char *name, const char *value) {
 static int find(char **words, int count) {
     struct search s = { .observer = SSB };
     for (int i = 0; i + 2 < count; i += 2) take_option(&s, words[i], words[i + 1]);
-    if (count % 2 == 0 || s.step < 1) fail("--step SECONDS OPTIONS FILE");
-    struct file f = read_file(words[count - 1]);
+    if (count % 2 == 0 || s.step < 1 || !s.number) fail("find --reader READER --step SECONDS OPTIONS FILE");
+    struct file f = read_file(words[count - 1], s.number);
     struct events found = { 0 };
     search(&f, &s, &found);
     for (size_t i = 0; i < found.count; i++)
@@ -472,8 +559,9 @@ static int find(char **words, int count) {
 }
 
 int main(int count, char **words) {
-    if (count == 3 && !strcmp(words[1], "reading")) return reading(words[2], 0);
-    if (count == 3 && !strcmp(words[1], "eights")) return reading(words[2], 1);
+    make_powers();
+    if (count == 4 && !strcmp(words[1], "reading")) return reading(words[3], reader_of(words[2]));
+    if (count == 3 && !strcmp(words[1], "compare")) return compare(words[2]);
     if (count > 2 && !strcmp(words[1], "find")) return find(words + 2, count - 2);
-    fail("reading FILE, eights FILE or find --step SECONDS OPTIONS FILE");
+    fail("reading READER FILE, compare FILE or find --reader READER --step SECONDS OPTIONS FILE");
 }

@@ -1,12 +1,17 @@
 #!/bin/sh
-# Counts the instructions of whole runs over FILE by one worker, which other work on a machine does not change. It needs
-# valgrind, which counts one instruction for each byte of large storage that is cleared.
+# Counts the instructions of whole runs over FILE by one worker, which other work on a machine does not change, and those of the
+# peer in C (doubles.c) by both of its readers, in seconds and at the steps of century.txt. It needs valgrind, which counts one
+# instruction for each byte of large storage that is cleared.
 #
 #     bench/instructions.sh FILE [PROGRAM]     FILE is JPL's text of DE405 with a header and blocks
 #
-# It prints a row for each run: what is run, and millions of instructions. PROGRAM is the shipped one if it is left out.
+# It prints a row for each run: what is run, and millions of instructions. rows.py takes them. PROGRAM is the shipped one if it
+# is left out.
 set -e
-[ $# -ge 1 ] && [ -r "$1" ] || { echo "usage: bench/instructions.sh FILE [PROGRAM], FILE a text of DE405 by JPL" >&2; exit 2; }
+if [ $# -lt 1 ] || [ ! -r "$1" ]; then
+    echo "usage: bench/instructions.sh FILE [PROGRAM], FILE a text of DE405 by JPL" >&2
+    exit 2
+fi
 file=$(realpath "$1")
 here=$(realpath "$(dirname "$0")")
 program=$(realpath -m "${2:-$here/../release/finder-x86_64-linux}")
@@ -14,30 +19,68 @@ program=$(realpath -m "${2:-$here/../release/finder-x86_64-linux}")
 command -v valgrind >/dev/null || { echo "bench/instructions.sh: valgrind is not on the path" >&2; exit 1; }
 work=$(mktemp -d)
 trap 'rm -rf "$work"' EXIT
+cc -O2 -o "$work/doubles" "$here/doubles.c" -lm
+stamp="$(date -I) | \`$(sha256sum "$program" | cut -c 1-8)\`"
 
-# Prints a row: what is run, and the millions of instructions of this command.
-row() {
-    said=$1
-    shift
-    valgrind --tool=cachegrind --cache-sim=no --cachegrind-out-file=/dev/null "$program" "$@" >"$work/out" 2>"$work/err" ||
+# Prints the millions of instructions of a command.
+millions() {
+    valgrind --tool=cachegrind --cache-sim=no --cachegrind-out-file=/dev/null "$@" >"$work/out" 2>"$work/err" ||
         { cat "$work/err" >&2; exit 1; }
-    awk -v said="$said" '/I *refs:/ { gsub(",", "", $NF); printf "| %s | %.1f |\n", said, $NF / 1e6 }' "$work/err"
+    awk '/I *refs:/ { gsub(",", "", $NF); printf "%.1f\n", $NF / 1e6 }' "$work/err"
 }
 
-moon='--target moon --second sun --observer earth'
-mercury='--target mercury --second sun --observer earth'
-row '`check`' check "$file"
-row '`find`, Mercury'"'"'s x' find --kind coord --target mercury --axis x "$file"
-row '`find`, conjunctions of Mercury and Venus along the ecliptic' find --kind conj --target mercury --second venus --observer earth --frame ecl "$file"
-row '`find`, solar eclipses somewhere on Earth' find --kind any $moon --radius1 8115.5 --radius2 695700 "$file"
-row '`find`, the Moon'"'"'s apsides' find --kind apsis --target moon --observer earth "$file"
-row '`find`, the Moon'"'"'s apsides in milliseconds' find --kind apsis --target moon --observer earth --tick 1000 "$file"
-row '`find`, extremes of Moon and Sun' find --kind sepext $moon "$file"
-row '`find`, extremes of Moon and Sun in milliseconds' find --kind sepext $moon --tick 1000 "$file"
-row '`find`, extremes of Mercury and the Sun' find --kind sepext $mercury "$file"
-row '`find`, quarters of the Moon' find --kind sep $moon --ref 0 "$file"
-row '`find`, quarters of the Moon in milliseconds' find --kind sep $moon --ref 0 --tick 1000 "$file"
-row '`set`, Moon and Sun within a right angle' set --relation atleast --kind sep $moon --ref 0 "$file"
-row '`cert`, new moons' cert --kind conj $moon --frame ecl "$file"
-"$program" cert --kind conj $moon --frame ecl "$file" >"$work/certificate"
-row '`verify`, that of new moons' verify --cert "$work/certificate" --kind conj $moon --frame ecl "$file"
+# Prints a row: the program's command and what it is of, the counts of the program, and those of C or dashes.
+row() {
+    said=$1 ours=$2 by_strtod=$3 by_eights=$4
+    echo "| \`${said%% *}\`, ${said#* } | $ours | $by_strtod | $by_eights | $stamp |"
+}
+
+# A search by the program and by C, whose step in seconds comes second. OPTIONS are those of both; more are of the program.
+find_both() {
+    said=$1 step=$2 options=$3
+    shift 3
+    # shellcheck disable=SC2086  # options are words
+    row "find $said" "$(millions "$program" find $options "$@" "$file")" \
+        "$(millions "$work/doubles" find --reader strtod --step "$step" $options "$file")" \
+        "$(millions "$work/doubles" find --reader eights --step "$step" $options "$file")"
+}
+
+# Another command of the program alone.
+alone() {
+    said=$1
+    shift
+    row "$said" "$(millions "$program" "$@" "$file")" - -
+}
+
+# A line for each search that C makes too: what it is of, the step, whether it is made in milliseconds too, and its options.
+searches() {
+    cat <<END
+Mercury's x|86400|no|--kind coord --target mercury --axis x
+conjunctions of Mercury and Venus along the ecliptic|86400|no|--kind conj --target mercury --second venus \
+--observer earth --frame ecl
+solar eclipses somewhere on Earth|3600|no|--kind any --target moon --second sun --observer earth --radius1 8115.5 \
+--radius2 695700
+the Moon's apsides|21600|yes|--kind apsis --target moon --observer earth
+extremes of Moon and Sun|21600|yes|--kind sepext --target moon --second sun --observer earth
+extremes of Mercury and the Sun|86400|no|--kind sepext --target mercury --second sun --observer earth
+quarters of the Moon|21600|yes|--kind sep --target moon --second sun --observer earth --ref 0
+END
+}
+
+echo "| Run | \`finder\` | C by strtod | C by eight digits | Date | Program |"
+echo "|---|---|---|---|---|---|"
+row "check of the text" "$(millions "$program" check "$file")" \
+    "$(millions "$work/doubles" reading strtod "$file")" "$(millions "$work/doubles" reading eights "$file")"
+searches | while IFS='|' read -r name step in_milliseconds options; do
+    find_both "$name" "$step" "$options"
+    [ "$in_milliseconds" = no ] || find_both "$name, in milliseconds" "$step" "$options" --tick 1000
+done
+moons='--kind conj --target moon --second sun --observer earth --frame ecl'
+quarter='--kind sep --target moon --second sun --observer earth --ref 0'
+# shellcheck disable=SC2086  # options are words
+{
+    alone "set Moon and Sun within a right angle" set --relation atleast $quarter
+    alone "cert new moons" cert $moons
+    "$program" cert $moons "$file" >"$work/certificate"
+    alone "verify that of new moons" verify --cert "$work/certificate" $moons
+}

@@ -30,10 +30,11 @@ measure() {
     for _ in 1 2 3; do
         "$work/nodes" least "$kind" "$work/century.asc"
     done | sort -k 7 -n | head -n 1 >"$work/least"
-    peer=$(processor "$work/doubles" find --observer earth "$@" "$work/century.asc")
+    peer=$(processor "$work/doubles" find --reader strtod --observer earth "$@" "$work/century.asc")
     awk -v peer="$peer" -v times="$times" -v reading="$reading" '{
         printf "%s: %d leaves, %d clear by an enclosure: %.2f s for these in C; ", $1, $3, $5, $7
-        printf "the peer %.2f s, of %.2f times which a reading of %.2f s leaves %.2f s\n", peer, times, reading, times * peer - reading
+        printf "the peer %.2f s, of %.2f times which a reading of %.2f s ", peer, times, reading
+        printf "leaves %.2f s\n", times * peer - reading
     }' "$work/least"
 }
 

@@ -27,11 +27,6 @@ least() {
         '{ printf "  %s: status %s, user %s s, system %s s, elapsed %s s, peak %.1f MB\n", name, $6, $2, $3, $4, $5 / 1024 }'
 }
 
-# What the C program said of the words, the numbers and their sum, to twelve digits: its two ways round the last bits.
-said() {
-    awk '{ printf "words %s numbers %s sum %.11e\n", $2, $4, $6 }' "$1"
-}
-
 # One run, timed to a file of times, with its output in a file.
 run() {
     times=$work/$1.times out=$work/$1.out
@@ -51,8 +46,8 @@ measure() {
     rm -f "$work"/*.times
     for _ in 1 2 3 4 5; do
         run ours "$ours" check "$work/$1"
-        run strtod "$work/peer" reading "$work/$1"
-        run eights "$work/peer" eights "$work/$1"
+        run strtod "$work/peer" reading strtod "$work/$1"
+        run eights "$work/peer" reading eights "$work/$1"
     done
     least "finder check" "$work/ours.times"
     least "C with strtod" "$work/strtod.times"
@@ -61,7 +56,7 @@ measure() {
     ratio eights "C with eight digits at a time"
     echo "  finder says at last: $(tail -n 1 "$work/ours.out")"
     echo "  C says: $(cat "$work/strtod.out")"
-    if [ "$(said "$work/strtod.out")" != "$(said "$work/eights.out")" ]; then
+    if ! cmp -s "$work/strtod.out" "$work/eights.out"; then
         echo "  C says otherwise with eight digits at a time: $(cat "$work/eights.out")"
     fi
 }

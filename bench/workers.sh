@@ -49,7 +49,8 @@ measure() {
     for workers in 1 2 4; do
         cmp -s "$work/1.out" "$work/$workers.out" || { echo "$what over $span: the reports differ" >&2; exit 1; }
         awk -v workers="$workers" -v a="$(milliseconds "$workers")" -v single="$(milliseconds 1)" 'BEGIN {
-            printf "  %d %s: %.3f ms, %.2f times as fast as with 1 worker\n", workers, workers == 1 ? "worker" : "workers", a, single / a
+            name = workers == 1 ? "worker" : "workers"
+            printf "  %d %s: %.3f ms, %.2f times as fast as with 1 worker\n", workers, name, a, single / a
         }'
     done
 }

@@ -99,7 +99,7 @@ class Refusals(unittest.TestCase):
         """The launcher has no program of it, and what reads the sources alone is checked."""
         self.change("crates/gf_find/src/lib.rt", lambda text: text + b"\n")
         status, said = self.run_test("launcher", "public-calls", "cases/layouts")
-        self.assertEqual((status, self.last), (1, f"{LAYOUTS + 4} passed, 1 failed, 1 skipped"), said)
+        self.assertEqual((status, self.last), (1, f"{LAYOUTS + 6} passed, 2 failed, 1 skipped"), said)
         self.assertIn(f"not ok 3 - {PROGRAM} is that of the sources here", said)
         self.assertRegex(said, r"launcher +0 passed, 0 failed, 1 skipped .* skipped, as it stands on program, which failed")
         self.assertRegex(said, r"public-calls +1 passed, 0 failed")

@@ -137,7 +137,7 @@ class Files(InFolder):
             self.assertEqual(Excerpts(sky().files).files(["sun"], *inside).files, sky().files)
         with mock.patch.object(excerpts, "LONG", 1_000):
             self.assertEqual(Excerpts(sky().files).files(["sun"], *inside).files, sky().files)
-        with mock.patch.object(excerpts.tempfile, "mkdtemp", side_effect=OSError(28, "No space left on device")):
+        with mock.patch.object(excerpts.scratch, "new_folder", side_effect=OSError(28, "No space left on device")):
             self.assertEqual(Excerpts(sky().files).files(["sun"], *inside).files, sky().files)
 
 

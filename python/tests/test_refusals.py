@@ -7,6 +7,7 @@ import signal
 import subprocess
 import sys
 import threading
+from fractions import Fraction
 
 import finder
 from tests.common import PROGRAM, REPORT, TOP, YEAR, InFolder, is_running, stand_in, wait_for
@@ -170,6 +171,17 @@ class Stops(InFolder):
         for timeout in ("5", float("nan"), True):
             with self.assertRaisesRegex(TypeError, "timeout is a number of seconds"):
                 finder.check(YEAR, program=self.slow, timeout=timeout)
+
+    def test_more_seconds_than_the_clock_holds(self):
+        for timeout in (10**400, Fraction(10**400), 2 * int(sys.float_info.max)):
+            with self.assertRaises(ValueError) as caught:
+                finder.check(YEAR, timeout=timeout)
+            self.assertEqual(
+                str(caught.exception),
+                "timeout has more seconds than the clock holds: leave it out, to wait without end",
+            )
+        for timeout in (10**300, 1e300, float("inf")):
+            self.assertEqual(finder.check(YEAR, timeout=timeout).blocks, 12)
 
     def test_the_command_itself_is_ended(self):
         pipe = self.folder / "pipe"

@@ -113,6 +113,7 @@ class Faults(unittest.TestCase):
 
     room: Path
     faults: Path
+    tried = 0
 
     @classmethod
     def setUpClass(cls) -> None:
@@ -124,13 +125,13 @@ class Faults(unittest.TestCase):
         if compiler is None:
             raise unittest.SkipTest(f"there is no C compiler here ({', '.join(COMPILERS)})")
         built = subprocess.run([compiler, "-O1", "-o", cls.faults, SOURCE], capture_output=True, check=False)
-        if built.returncode:
+        if b"No such file" in built.stderr or b"file not found" in built.stderr:
             raise unittest.SkipTest(f"{compiler} has no headers of seccomp here")
+        assert built.returncode == 0, built.stderr.decode()
         (cls.room / "empty").mkdir()
         words = [cls.faults, "open", "5", "0", "/none", cls.room / "count", shutil.which("true")]
         if subprocess.run(words, check=False).returncode == CANNOT:
             raise unittest.SkipTest("this system lets no process stop another at its calls (seccomp and ptrace, Linux 4.8)")
-        cls.tried = 0
 
     @classmethod
     def tearDownClass(cls) -> None:
@@ -203,8 +204,8 @@ class Faults(unittest.TestCase):
     def run_shell(self, call: str, error: int, failing: int, text: str) -> "tuple[int, str, int]":
         """The status of a shell in which a call fails, what it said, and how many calls there were."""
         count = self.room / "count"
-        words = [self.faults, call, str(error), str(failing), self.room, count, "/bin/sh", "-c", text]
-        done = subprocess.run(words, cwd=self.room, capture_output=True, text=True, timeout=SECONDS, check=False)
+        words = map(str, (self.faults, call, error, failing, self.room, count, "/bin/sh", "-c", text))
+        done = subprocess.run(list(words), cwd=self.room, capture_output=True, text=True, timeout=SECONDS, check=False)
         return done.returncode, done.stderr, int(count.read_text())
 
     def test_the_call_that_is_named_fails_and_no_other(self) -> None:

@@ -19,7 +19,7 @@ use spec_trees::{Leaf, Node};
 use std::marker::Brand;
 use std::sync::Wait;
 use std::thread::Threads;
-use still_spans::{Manner, StillJudge, StillList};
+use still_spans::{Manner, SignJudge, StillJudge, StillList};
 
 // Returns the leaves that are wanted of a tree that is walked by a judge of its search, with still spans of the search,
 // in order of time. Errors: `TooManyLeaves` if the tree has more leaves than the crew may find, or `Memory`.
@@ -44,8 +44,34 @@ fn leaves_by_stills<R: Threads + Wait + Sync, J: Judge, G: Gate>(
 }
 
 // Returns the leaves that are wanted of a tree that is walked, in order of time. Before the walk's judge stands one that
-// takes what still spans of the search decide from them, if there are any. Errors: `TooManyLeaves` if the tree has more
-// leaves than the crew may find, or `Memory`.
+// takes what still spans of the search decide from them. Errors: `TooManyLeaves` if the tree has more leaves than the crew
+// may find, or `Memory`.
+fn leaves_by_still_judge<R: Threads + Wait + Sync, J: Judge, G: Gate>(
+    walk: &Walk<R, J, G>,
+    wanted: Wanted,
+    stills: &StillList,
+) -> Result<Vec<Leaf>, Refusal>
+    requires still { All (IsStill walk.now.search.now) stills.now }
+    ensures found { IfOk result (λ found.
+        AreWanted wanted walk.now.crew.now.max_leaves walk.now.search.now walk.now.root
+        found.items) }
+    ensures stopped { IfErr result (λ refusal.
+        StopsAt walk.now.crew.now.max_leaves
+        (leaf_count (rules walk.now.search.now) walk.now.root) refusal) }
+{
+    let judge = StillJudge::new(walk.judge, walk.search, stills, Manner::Exact);
+    let exact = Walk {
+        crew: walk.crew,
+        judge: &judge,
+        search: walk.search,
+        root: walk.root,
+    };
+    leaves_by_stills(&exact, wanted, stills)
+}
+
+// Returns the leaves that are wanted of a tree that is walked, in order of time. If there are still spans of the search,
+// judges stand before the walk's that take from them what they decide: by the spans, and then by the signs at the ends of
+// nodes. Errors: `TooManyLeaves` if the tree has more leaves than the crew may find, or `Memory`.
 fn wanted_leaves<R: Threads + Wait + Sync, J: Judge, G: Gate>(
     walk: &Walk<R, J, G>,
     wanted: Wanted,
@@ -62,14 +88,16 @@ fn wanted_leaves<R: Threads + Wait + Sync, J: Judge, G: Gate>(
     if stills.is_empty() {
         return tree_leaves(walk);
     }
-    let judge = StillJudge::new(walk.judge, walk.search, stills, Manner::Exact);
-    let exact = Walk {
+    let Ok(judge) = SignJudge::new(walk.crew.alloc, walk.judge, walk.search, stills) else {
+        return Err(Refusal::Memory);
+    };
+    let signs = Walk {
         crew: walk.crew,
         judge: &judge,
         search: walk.search,
         root: walk.root,
     };
-    leaves_by_stills(&exact, wanted, stills)
+    leaves_by_still_judge(&signs, wanted, stills)
 }
 
 // Returns the leaves that are wanted of a tree that is walked, in order of time, with the still spans by which they were

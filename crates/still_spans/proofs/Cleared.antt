@@ -14,7 +14,7 @@ use Rattle.spec_stills.specs.declared.still.StillSpan.{StillSpan}
 use Rattle.spec_stills.specs.Still.{IsStill, lies_in}
 use Rattle.still_spans.specs.Signs.{TellSigns}
 
-no_later : (a b : ℤ) → int_le a b ≡ true → a ≤ℤ b
+pub no_later : (a b : ℤ) → int_le a b ≡ true → a ≤ℤ b
 no_later a b e = grind (arith, ints, e)
 
 no_more : (m n : ℕ) → nat_le m n ≡ true → m ≤ n

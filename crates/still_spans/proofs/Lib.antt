@@ -6,6 +6,7 @@ mod Changing
 mod Cutting
 mod Descent
 mod EndSigns
+mod Certifying
 mod Eager
 mod FollowingNodes
 mod Served

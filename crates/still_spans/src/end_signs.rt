@@ -1,18 +1,20 @@
-// The verdicts that signs at the two ends of a node tell by themselves, if the event has no conditions.
-ghost use Rattle.std.specs.Prelude.{◌≡◌, ◌<ℤ◌, All, IfSome, IsTrue, [], false, true};
+// The verdicts that signs at the two ends of a node tell, and the judge by them.
+ghost use Rattle.std.specs.Prelude.{◌≡◌, ◌<ℤ◌, All, IfOk, IfSome, false};
 ghost use Rattle.spec_trees.specs.Cuts.{is_wide};
 ghost use Rattle.spec_trees.specs.Tree.{IsValid};
-ghost use Rattle.spec_events.specs.Stages.{is_above_limits};
 ghost use Rattle.spec_searches.specs.Found.{rules};
-ghost use Rattle.spec_searches.specs.Search.{criteria, verdict_of};
+ghost use Rattle.spec_searches.specs.Search.{verdict_of};
 ghost use Rattle.spec_stills.specs.Still.{IsStill};
-ghost use Rattle.still_spans.specs.EndSigns.{HasEndSigns};
+ghost use Rattle.still_spans.specs.EndSigns.{AreCertifiedIn, HasEndSigns};
 
 use crate::beginning::may_be_split;
+use crate::certified_times::certified_times;
+use crate::sign_judge::{EndSigns, SignJudge};
 use crate::still_list::StillList;
 use event_judge::EventSearch;
-use gf_hooks::{Node, Verdict, differ, has_no_turn, turn_to};
+use gf_hooks::{Judge, Node, Verdict, differ, has_no_turn, turn_to};
 use ival_core::Sign;
+use std::alloc::{AllocError, Global};
 
 // Tells whether a node is wider than one tick.
 #[inline(always)]
@@ -23,94 +25,131 @@ fn is_wide(node: Node) -> bool
     1 < node.b.abs_diff(node.a)
 }
 
-// Tells whether the event of a search has no conditions.
-#[inline(always)]
-fn is_unconditional(search: &EventSearch) -> bool
-    ensures { IsTrue result → search.now.event.conditions ≡ [] }
-{
-    search.event().guards().is_empty()
-}
-
-// Tells whether signs at the ends of a node may tell its verdict by themselves: the event has no conditions, and the
-// node is one tick wide, or above the limits of the search.
-#[inline(always)]
-fn may_be_told_by_ends(search: &EventSearch, node: Node) -> bool
-    requires { node.a <ℤ node.b }
-    ensures { IsTrue result → search.now.event.conditions ≡ [] }
-{
-    is_unconditional(search) && (!is_wide(node) || may_be_split(search, node))
-}
-
-// Returns the verdict of a node that is one tick wide, by the signs at its two times: clear if these show no turn that
-// is wanted, and one event if they show one. None is returned if a sign that is not known leaves it open.
-fn one_tick_verdict(search: &EventSearch, node: Node, first: Sign, last: Sign) -> Option<Verdict>
-    requires signs { HasEndSigns search.now node first last }
-    requires narrow { is_wide node ≡ false }
-    ensures { IfSome result (λ verdict. verdict ≡ verdict_of search.now node) }
-{
-    search.is_search();
-    let dir = search.event().dir();
-    if has_no_turn(dir, first, last) {
-        Some(Verdict::Clear)
-    } else if differ(dir, first, last) {
-        Some(Verdict::One(turn_to(last)))
-    } else {
-        None
-    }
-}
-
-// Returns the verdict of a node above the limits of the search, by the signs at its ends: it is split if these show a
-// turn that is wanted. Else they tell nothing, as there may be two turns between them, and none is returned.
-fn wide_verdict(search: &EventSearch, node: Node, first: Sign, last: Sign) -> Option<Verdict>
-    requires signs { HasEndSigns search.now node first last }
-    requires above { is_above_limits (criteria search.now) node ≡ true }
-    ensures { IfSome result (λ verdict. verdict ≡ verdict_of search.now node) }
-{
-    search.is_search();
-    if differ(search.event().dir(), first, last) {
-        Some(Verdict::Split)
-    } else {
-        None
-    }
-}
-
-// Returns the verdict of a node by the signs at its ends, if these tell it: of a node that is one tick wide, or above
-// the limits of the search.
-fn verdict_by_end_signs(
-    search: &EventSearch,
-    node: Node,
-    first: Sign,
-    last: Sign,
-) -> Option<Verdict>
-    requires { HasEndSigns search.now node first last }
-    ensures { IfSome result (λ verdict. verdict ≡ verdict_of search.now node) }
-{
-    if may_be_split(search, node) {
-        wide_verdict(search, node, first, last)
-    } else if is_wide(node) {
-        None
-    } else {
-        one_tick_verdict(search, node, first, last)
-    }
-}
-
-impl StillList {
-    /// Returns the verdict of a node of a search, if still spans of the search hold both its ends and the signs there
-    /// tell it, or none.
-    pub(crate) fn verdict_by_signs(&self, search: &EventSearch, node: Node) -> Option<Verdict>
-        requires still { All (IsStill search.now) self.now }
-        requires valid { IsValid (rules search.now) node }
-        ensures { IfSome result (λ verdict. verdict ≡ verdict_of search.now node) }
+impl<'j, 's, 'e, J: Judge> SignJudge<'j, 's, 'e, J> {
+    /// Makes the judge of a search's nodes by the signs that its still spans tell. `judge` has the rules of the search,
+    /// and is asked of the nodes that no signs decide. The only error is out of memory.
+    pub fn new(
+        alloc: Global,
+        judge: &'j J,
+        search: &'j EventSearch<'e>,
+        stills: &'s StillList,
+    ) -> Result<SignJudge<'j, 's, 'e, J>, AllocError>
+        requires rules { J.rules judge.now ≡ rules search.now }
+        requires still { All (IsStill search.now) stills.now }
+        ensures { IfOk result (λ made. J.rules made.judge.now ≡ J.rules judge.now) }
     {
-        if !may_be_told_by_ends(search, node) {
+        let signs = EndSigns::new(alloc, search, stills)?;
+        Ok(SignJudge { judge, signs })
+    }
+}
+
+impl<'j, 's, 'e> EndSigns<'j, 's, 'e> {
+    // Keeps still spans of a search, with the times beside turns at which its conditions are certified. The only error is
+    // out of memory.
+    fn new(
+        alloc: Global,
+        search: &'j EventSearch<'e>,
+        stills: &'s StillList,
+    ) -> Result<EndSigns<'j, 's, 'e>, AllocError>
+        requires { All (IsStill search.now) stills.now }
+        ensures { IfOk result (λ made. made.search.now ≡ search.now) }
+    {
+        let certified = certified_times(alloc, search, stills)?;
+        Ok(EndSigns {
+            search,
+            stills,
+            certified,
+        })
+    }
+
+    // Returns the last of the times that lies in a node and at which each condition of the event is certified, or none.
+    fn certified_time_in(&self, node: Node) -> Option<i64>
+        ensures { IfSome result (AreCertifiedIn self.now.search.now node) }
+    {
+        let count = self
+            .certified
+            .partition_point(|time: &i64| -> bool { *time <= node.b });
+        let Some(place) = count.checked_sub(1) else {
+            return None;
+        };
+        let time = self.certified[place];
+        if node.a <= time && time <= node.b {
+            Some(time)
+        } else {
+            None
+        }
+    }
+
+    // Returns the verdict of a node that is one tick wide, by the signs at its two times: clear if these show no turn that
+    // is wanted, and one event if they show one and each condition is certified at the last time. Else none is returned.
+    fn one_tick_verdict(&self, node: Node, first: Sign, last: Sign) -> Option<Verdict>
+        requires signs { HasEndSigns self.now.search.now node first last }
+        requires narrow { is_wide node ≡ false }
+        ensures { IfSome result (λ verdict. verdict ≡ verdict_of self.now.search.now node) }
+    {
+        self.search.is_search();
+        let dir = self.search.event().dir();
+        if has_no_turn(dir, first, last) {
+            return Some(Verdict::Clear);
+        }
+        match self.certified_time_in(node) {
+            Some(time) if time == node.b && differ(dir, first, last) => {
+                Some(Verdict::One(turn_to(last)))
+            }
+            _ => None,
+        }
+    }
+
+    // Returns the verdict of a wide node, by the signs at its ends: it is split if these show a turn that is wanted,
+    // conditions are certified at one of its times, and the limits of the search allow it. Else none is returned.
+    fn wide_verdict(&self, node: Node, first: Sign, last: Sign) -> Option<Verdict>
+        requires { HasEndSigns self.now.search.now node first last }
+        ensures { IfSome result (λ verdict. verdict ≡ verdict_of self.now.search.now node) }
+    {
+        self.search.is_search();
+        if !may_be_split(self.search, node) || !differ(self.search.event().dir(), first, last) {
             return None;
         }
-        let Some(first) = self.sign_at(node.a) else {
-            return None;
-        };
-        let Some(last) = self.sign_at(node.b) else {
-            return None;
-        };
-        verdict_by_end_signs(search, node, first, last)
+        match self.certified_time_in(node) {
+            Some(_) => Some(Verdict::Split),
+            None => None,
+        }
     }
+
+    // Returns the verdict of a node if still spans hold both its ends and the signs there tell it, or none.
+    fn verdict_by_signs(&self, node: Node) -> Option<Verdict>
+        requires { IsValid (rules self.now.search.now) node }
+        ensures { IfSome result (λ verdict. verdict ≡ verdict_of self.now.search.now node) }
+    {
+        let Some(first) = self.stills.sign_at(node.a) else {
+            return None;
+        };
+        let Some(last) = self.stills.sign_at(node.b) else {
+            return None;
+        };
+        if is_wide(node) {
+            self.wide_verdict(node, first, last)
+        } else {
+            self.one_tick_verdict(node, first, last)
+        }
+    }
+}
+
+impl<'j, 's, 'e, J: Judge> Judge for SignJudge<'j, 's, 'e, J> {
+    ghost rules = { λ judge. J.rules judge.judge.now };
+
+    // Returns the verdict of a node, by the signs at its ends or by the other judge.
+    fn judge(&self, node: Node) -> Verdict {
+        match self.signs.verdict_by_signs(node) {
+            Some(verdict) => verdict,
+            None => self.judge.judge(node),
+        }
+    }
+
+    // Returns the parts of a node, as the other judge does.
+    fn cut(&self, node: Node) -> (Node, Node) {
+        self.judge.cut(node)
+    }
+
+    ghost sound = { λ judge. J.sound judge.judge.now };
 }

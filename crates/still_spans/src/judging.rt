@@ -16,8 +16,7 @@ use event_judge::EventSearch;
 use gf_hooks::{Judge, Node, Verdict};
 
 impl StillList {
-    // Returns the verdict of a node of a search if still spans of the search tell it, or none: clear if a span shows it,
-    // and else what the signs at its ends tell.
+    // Returns the verdict of a node of a search if a still span of the search shows it: clear, or none.
     fn exact_verdict(&self, search: &EventSearch, node: Node) -> Option<Verdict>
         requires still { All (IsStill search.now) self.now }
         requires valid { IsValid (rules search.now) node }
@@ -26,13 +25,12 @@ impl StillList {
         if self.clears_node(node) {
             Some(Verdict::Clear)
         } else {
-            self.verdict_by_signs(search, node)
+            None
         }
     }
 
     // Returns the verdict of a node in the eager tree if still spans tell it: clear if one serves it, split if one begins
-    // within it and the limits allow it, and else what the signs at its ends tell. If none is returned, the verdict is
-    // that of the search.
+    // within it and the limits allow it. If none is returned, the verdict is that of the search.
     fn eager_verdict(&self, search: &EventSearch, node: Node) -> Option<Verdict>
         requires still { All (IsStill search.now) self.now }
         requires valid { IsValid (rules search.now) node }
@@ -42,12 +40,12 @@ impl StillList {
         match self.node_standing(search, node) {
             Standing::Served => Some(Verdict::Clear),
             Standing::Begun => Some(Verdict::Split),
-            Standing::Open => self.verdict_by_signs(search, node),
+            Standing::Open => None,
         }
     }
 
-    // Returns the verdict of a node in the served tree if still spans tell it: clear if one serves it, and else what the
-    // signs at its ends tell. If none is returned, the verdict is that of the search.
+    // Returns the verdict of a node in the served tree if a still span tells it: clear if one serves it. If none is
+    // returned, the verdict is that of the search.
     fn served_verdict(&self, search: &EventSearch, node: Node) -> Option<Verdict>
         requires still { All (IsStill search.now) self.now }
         requires valid { IsValid (rules search.now) node }
@@ -56,7 +54,7 @@ impl StillList {
     {
         match self.serving_span(search, node) {
             Some(_) => Some(Verdict::Clear),
-            None => self.verdict_by_signs(search, node),
+            None => None,
         }
     }
 

@@ -18,19 +18,23 @@
 //! 5. Whether the unit between two spans is still, which have the same sign: `borders`. Shares are joined in order: `joining`.
 //! 6. Of a node, by `judging`: whether a span shows that it is clear, or, in an eager or a served tree, serves it, by halving of
 //!    a `StillList`: `serving`; and in an eager tree whether one begins in it, so that it is split unjudged: `beginning`. Else
-//!    whether still spans hold its two ends, and the signs that they tell there decide: `end_signs`. Else the judge of the
-//!    search is asked.
+//!    another judge is asked. One is a `SignJudge`: if still spans hold the two ends of a node, the signs that they tell there
+//!    may decide it, and times at which the conditions hold: `end_signs`, `certified_times`,
+//!    `conditions`. Else the judge of the search is
+//!    asked.
 //! 7. Of leaves: how many leaves of the tree they stand for at most: `serving`; and which undecided ones of an eager tree lie in
 //!    a clear leaf of the tree, and are clear for that: `settling`.
 //!
 //! A `StillList` has spans of which each begins no earlier than the one before it ends, so that no more than one can serve a
-//! node; it is empty where they do not. A `StillJudge` is given spans that are still, since it takes verdicts and signs from
-//! them. No call of a judge allocates or fails.
+//! node; it is empty where they do not. A `StillJudge` and a `SignJudge` are given spans that are still, since they take
+//! verdicts and signs from them. No call of a judge allocates or fails; memory can run out as a `SignJudge` is made.
 #![tactic(auto)]
 
 mod beginning;
 mod borders;
 mod budget;
+mod certified_times;
+mod conditions;
 mod cuts;
 mod end_signs;
 mod granules;
@@ -47,6 +51,7 @@ mod serving;
 mod settling;
 mod shares;
 mod sign_halves;
+mod sign_judge;
 mod span_bound;
 mod standing;
 mod still_judge;
@@ -58,6 +63,7 @@ mod worth;
 pub use limits::MAX_HALVINGS;
 pub use manner::Manner;
 pub use shares::still_spans_by;
+pub use sign_judge::SignJudge;
 pub use spec_stills::StillSpan;
 pub use still_judge::StillJudge;
 pub use still_list::StillList;

@@ -15,12 +15,12 @@ import os
 import shutil
 import tempfile
 import time
-import weakref
 from collections.abc import Callable, Iterable, Iterator
 from dataclasses import dataclass, field, replace
 from pathlib import Path
 from typing import TYPE_CHECKING, Any, NamedTuple, Optional, Protocol, runtime_checkable
 
+from ..process import scratch
 from ..process.whole_files import copy_whole
 from .sums import SUMS, sha256_of
 
@@ -112,13 +112,13 @@ def kept(key: str, make: Make, use: bool = True) -> Kept:
     """The text of a key: the one that is kept, or it is made and kept. `make` returns what `Made` has. Without `use` it
     is made in a folder that is removed with what it returns."""
     if not use:
-        folder = tempfile.mkdtemp(prefix="finder-text-")
+        folder = scratch.new_folder()
         try:
             made = _written(Path(folder), make())
         except BaseException:
             shutil.rmtree(folder, ignore_errors=True)
             raise
-        weakref.finalize(made, shutil.rmtree, folder, ignore_errors=True)
+        scratch.remove_with(made, folder)
         return made
     home = cache_folder()
     found = _found(home / key)

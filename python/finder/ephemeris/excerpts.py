@@ -9,10 +9,7 @@ from __future__ import annotations
 
 import math
 import os
-import shutil
-import tempfile
 import threading
-import weakref
 from collections.abc import Iterable, Sequence
 from dataclasses import dataclass, replace
 from pathlib import Path
@@ -20,6 +17,7 @@ from typing import Optional
 
 import numpy as np
 
+from ..process import scratch
 from . import writing
 from .files import HEAD_END, number_of, seconds_of
 from .text import AXES, COLUMNS, Column, EphemerisText
@@ -113,8 +111,8 @@ class Excerpts:
         key = columns, low, high
         if key not in self._made:
             if not self._folder:
-                self._folder = tempfile.mkdtemp(prefix="finder-text-")
-                weakref.finalize(self, shutil.rmtree, self._folder, ignore_errors=True)
+                self._folder = scratch.new_folder()
+                scratch.remove_with(self, self._folder)
             path = Path(self._folder, f"{len(self._made):04}.asc")
             try:
                 path.write_bytes(whole.excerpt(columns, low, high))

@@ -9,7 +9,6 @@ import re
 import shlex
 import signal
 import subprocess
-import sys
 import threading
 import time
 from collections.abc import Sequence
@@ -336,9 +335,10 @@ Program = Union[str, os.PathLike[str], Runs, None]
 
 def _seconds_of_clock(timeout: float) -> None:
     """Refuses a timeout that is no time, or that no clock holds."""
-    if isinstance(timeout, int) and timeout > sys.float_info.max:
-        raise ValueError("timeout has more seconds than the clock holds: leave it out, to wait without end")
-    seconds("timeout", timeout)
+    try:
+        seconds("timeout", timeout)
+    except OverflowError:
+        raise ValueError("timeout has more seconds than the clock holds: leave it out, to wait without end") from None
 
 
 def _answer(ended: Outcome, words: Sequence[str]) -> str:

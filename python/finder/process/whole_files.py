@@ -9,7 +9,7 @@ import os
 import secrets
 import shutil
 import stat
-from collections.abc import Iterator
+from collections.abc import Callable, Iterator
 from pathlib import Path
 from typing import BinaryIO, Optional, Union
 
@@ -88,27 +88,40 @@ def whole_file(name: Name) -> Iterator[BinaryIO]:
 def new_folder(beside: Path) -> Iterator[Path]:
     """A folder in this one, for files that get their places once all are written. It is removed at the end with what is
     left in it; where the process is killed, by the next `sweep`."""
-    folder = beside / _undone()
     with named(beside):
-        folder.mkdir()
-    opened = None
+        folder, opened = locked_folder(lambda: _made_folder(beside / _undone()))
     try:
-        opened = os.open(folder, OF_FOLDER)
-        is_locked(opened)
         yield folder
     finally:
         shutil.rmtree(folder, ignore_errors=True)
-        if opened is not None:
-            os.close(opened)
+        os.close(opened)
 
 
-def sweep(folder: Path) -> None:
-    """Removes what killed processes have left half-written in a folder: what is being written is locked."""
-    for left in folder.glob(f"{UNDONE}*{NEW}"):
+def locked_folder(make: Callable[[], Name]) -> tuple[Path, int]:
+    """A folder that a call makes, and the number by which it is open and locked: no `sweep` takes it for one that was
+    left. It is made again where one did, before it was locked."""
+    while True:
+        folder = Path(make())
+        try:
+            opened = os.open(folder, OF_FOLDER)
+        except FileNotFoundError:
+            continue
+        except OSError:
+            shutil.rmtree(folder, ignore_errors=True)
+            raise
+        if not is_locked(opened) and folder.is_dir():
+            return folder, opened
+        os.close(opened)
+
+
+def sweep(folder: Path, names: str = f"{UNDONE}*{NEW}") -> None:
+    """Removes what killed processes have left in a folder, under such names: what is in use is locked. Where the system
+    knows no locks, all stays."""
+    for left in folder.glob(names):
         with contextlib.suppress(OSError):
             opened = os.open(left, OF_LEFT)
             try:
-                if not is_locked(opened):
+                if _lock(opened):
                     shutil.rmtree(left) if left.is_dir() else left.unlink()
             finally:
                 os.close(opened)
@@ -134,14 +147,7 @@ def sync_folder(folder: Path) -> None:
 
 def is_locked(opened: int) -> bool:
     """Locks what is open, for as long as it is open; whether another process has locked it before."""
-    try:
-        fcntl.flock(opened, fcntl.LOCK_EX | fcntl.LOCK_NB)
-    except BlockingIOError:
-        return True
-    except OSError as error:
-        if error.errno not in UNKNOWN:
-            raise
-    return False
+    return _lock(opened) is False
 
 
 @contextlib.contextmanager
@@ -165,6 +171,11 @@ def _undone() -> str:
     return f"{UNDONE}{secrets.token_hex(8)}{NEW}"
 
 
+def _made_folder(folder: Path) -> Path:
+    folder.mkdir()
+    return folder
+
+
 def _new_file(folder: Path) -> tuple[Path, BinaryIO]:
     """A new file of a folder, locked, and its name for now."""
     while True:
@@ -179,6 +190,19 @@ def _new_file(folder: Path) -> tuple[Path, BinaryIO]:
             _remove(new, file)
             raise
         _remove(new, file)
+
+
+def _lock(opened: int) -> Optional[bool]:
+    """Locks what is open: False where another process has locked it before, and None where the system knows no locks."""
+    try:
+        fcntl.flock(opened, fcntl.LOCK_EX | fcntl.LOCK_NB)
+    except BlockingIOError:
+        return False
+    except OSError as error:
+        if error.errno not in UNKNOWN:
+            raise
+        return None
+    return True
 
 
 def _remove(new: Path, file: BinaryIO) -> None:

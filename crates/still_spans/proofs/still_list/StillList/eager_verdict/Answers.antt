@@ -1,9 +1,6 @@
-use Rattle.std.proofs.Common.{◌≡◌, sym, subst}
-use Rattle.std.specs.Prelude.{IfSome}
-use Rattle.spec_trees.specs.declared.tree.Verdict.{Verdict}
 use Rattle.still_spans.specs.declared.standing.Standing.TheVariants.{Begun, Open, Served}
+use Rattle.std.proofs.Common.{sym}
 use Rattle.still_spans.proofs.Eager.{stands_as}
-use Rattle.still_spans.proofs.Manners.{if_none}
 use Rattle.still_spans.proofs.still_list.StillList.eager_verdict.Goals as goal
 
 pub returns-in-Served-clause-some : goal.returns-in-Served-clause-some
@@ -12,11 +9,5 @@ returns-in-Served-clause-some c = stands_as c.args.search.now c.args.self.now c.
 pub returns-in-Begun-clause-some : goal.returns-in-Begun-clause-some
 returns-in-Begun-clause-some c = stands_as c.args.search.now c.args.self.now c.args.node c.node_standing.result Begun c.node_standing.ensures c.in-Begun.is
 
-pub returns-in-Open-clause-some : goal.returns-in-Open-clause-some
-returns-in-Open-clause-some c =
-    subst (λ (v : Verdict). IfSome c.verdict_by_signs.result (λ verdict. verdict ≡ v))
-    (stands_as c.args.search.now c.args.self.now c.args.node c.node_standing.result Open c.node_standing.ensures c.in-Open.is) c.verdict_by_signs.ensures
-
 pub returns-in-Open-clause-none : goal.returns-in-Open-clause-none
-returns-in-Open-clause-none c =
-    if_none c.verdict_by_signs.result _ (sym (stands_as c.args.search.now c.args.self.now c.args.node c.node_standing.result Open c.node_standing.ensures c.in-Open.is))
+returns-in-Open-clause-none c = sym (stands_as c.args.search.now c.args.self.now c.args.node c.node_standing.result Open c.node_standing.ensures c.in-Open.is)

@@ -3,10 +3,10 @@ At last the system refuses all threads: the program runs as a user who may have 
 
     python3 memory.py PROGRAM REFUSED FOLDER
 
-REFUSED is `refused.c` as a library that is preloaded. Each run has to end in time, with status 8, nothing on standard output
-and the one line of that status on standard error, or with status 0, the whole report and nothing on standard error; and no
-thread but the first may be left. A row ends once a run was refused nothing. With several workers the number of requests
-depends on the schedule, so there a row ends after twenty such runs one after the other.
+REFUSED is `refused.c` as a library that is preloaded. Each run has to end in time, with status 8, nothing on standard
+output and the one line of that status on standard error, or with status 0, the whole report and nothing on standard
+error; and no thread but the first may be left. A row ends once a run was refused nothing. With several workers the number
+of requests depends on the schedule, so there a row ends after twenty such runs one after the other.
 """
 import os
 import resource

@@ -1,9 +1,9 @@
 """Puts the shipped program into the package that is built, so that what is installed searches at once.
 
-The program is `release/finder-x86_64-linux` of the clone in which this folder lies, or, in a source distribution, the
-copy of it that stands in `finder/`. A wheel with it is one of Linux on x86-64. Elsewhere a wheel has no program, and
-`program=` or the variable FINDER names one. The version is that of the clone's `VERSION`, of which what is built has a
-copy in `finder/`.
+There is one for Linux on x86-64 and one on 64-bit ARM: `release/finder-x86_64-linux` and `release/finder-aarch64-linux` of
+the clone in which this folder lies, or, in a source distribution, the copies of both that stand in `finder/`. A wheel has
+the one of the machine, and says so. Elsewhere a wheel has no program, and `program=` or the variable FINDER names one. The
+version is that of the clone's `VERSION`, of which what is built has a copy in `finder/`.
 """
 
 from __future__ import annotations
@@ -22,11 +22,11 @@ except ImportError:
     from wheel.bdist_wheel import bdist_wheel
 
 HERE = Path(__file__).resolve().parent
-PROGRAM = "finder-x86_64-linux"
+MACHINES = ("x86_64", "aarch64")
 VERSION = "VERSION"
-# The program needs the GNU C library 2.34 or later.
-PLATFORM = "manylinux_2_34_x86_64"
-RUNS_HERE = sysconfig.get_platform() == "linux-x86_64"
+# The machine that is built for, if there is a program for it. The program needs the GNU C library 2.34 or later.
+MACHINE = next((it for it in MACHINES if sysconfig.get_platform() == f"linux-{it}"), None)
+PLATFORM = f"manylinux_2_34_{MACHINE}" if MACHINE else "any"
 
 
 def find_version() -> Path:
@@ -43,16 +43,22 @@ def place_version(folder: Path) -> Path:
     return Path(shutil.copyfile(find_version(), folder / VERSION))
 
 
-def place_program(folder: Path) -> Path:
-    """Copies the program into a folder, and says where it is."""
-    found = [path for path in (HERE / "finder" / PROGRAM, HERE.parent / "release" / PROGRAM) if path.is_file()]
+def name_of(machine: str) -> str:
+    """The name of the program of a machine."""
+    return f"finder-{machine}-linux"
+
+
+def place_program(folder: Path, machine: str) -> Path:
+    """Copies the program of a machine into a folder, and says where it is."""
+    name = name_of(machine)
+    found = [path for path in (HERE / "finder" / name, HERE.parent / "release" / name) if path.is_file()]
     if not found:
         raise SystemExit(
-            f"the program {PROGRAM} is neither in ../release nor in finder/: build from a clone of the repository, "
+            f"the program {name} is neither in ../release nor in finder/: build from a clone of the repository, "
             "with pip 21.3 or later, or from a source distribution"
         )
     folder.mkdir(parents=True, exist_ok=True)
-    copy = Path(shutil.copyfile(found[0], folder / PROGRAM))
+    copy = Path(shutil.copyfile(found[0], folder / name))
     copy.chmod(0o755)
     return copy
 
@@ -65,35 +71,37 @@ class BuildWithProgram(build_py):
         if getattr(self, "editable_mode", False):
             return
         place_version(Path(self.build_lib, "finder"))
-        if RUNS_HERE:
-            place_program(Path(self.build_lib, "finder"))
+        if MACHINE:
+            place_program(Path(self.build_lib, "finder"), MACHINE)
 
     def get_outputs(self, include_bytecode: bool = True) -> list[str]:
         made = list(super().get_outputs(include_bytecode))
-        return made + [str(Path(self.build_lib, "finder", name)) for name in (VERSION, *([PROGRAM] if RUNS_HERE else []))]
+        placed = [VERSION, *([name_of(MACHINE)] if MACHINE else [])]
+        return made + [str(Path(self.build_lib, "finder", name)) for name in placed]
 
 
 class SourceWithProgram(sdist):
-    """Makes a source distribution that holds the version and the program."""
+    """Makes a source distribution that holds the version and the programs."""
 
     def make_release_tree(self, base_dir: str, files: list[str]) -> None:
         super().make_release_tree(base_dir, files)
         place_version(Path(base_dir, "finder"))
-        place_program(Path(base_dir, "finder"))
+        for machine in MACHINES:
+            place_program(Path(base_dir, "finder"), machine)
 
 
 class WithProgram(Distribution):
     """What is built holds more than Python where it holds the program."""
 
     def has_ext_modules(self) -> bool:
-        return RUNS_HERE
+        return MACHINE is not None
 
 
 class WheelOfPlatform(bdist_wheel):
     """Makes a wheel that says for which machines its program is; it is of every Python 3."""
 
     def get_tag(self) -> tuple[str, str, str]:
-        return ("py3", "none", PLATFORM) if RUNS_HERE else ("py3", "none", "any")
+        return ("py3", "none", PLATFORM)
 
 
 setup(

@@ -1,8 +1,8 @@
 """A Sphinx extension: code in the text of a page links to the page that explains it, and code blocks get colours.
 
 `finder.conjunctions` links to its reference, and `tools/spans` to the page that shows it (`HOMES`). In pages for users
-`find` and the other commands of the program link to theirs (`COMMANDS`). The name of a page links to it. A block that begins with `$ ` is one of a
-shell, and one that begins with `>>> ` one of Python; any other has no colours.
+`find` and the other commands of the program link to theirs (`COMMANDS`). The name of a page links to it. A block that
+begins with `$ ` is one of a shell, and one that begins with `>>> ` one of Python; any other has no colours.
 """
 
 from __future__ import annotations

@@ -42,8 +42,8 @@ from typing import TYPE_CHECKING, Any
 from .version import read_version as _read_version
 
 if TYPE_CHECKING:
-    from . import plot as plot
-    from . import spans as spans
+    from . import plot as plot  # noqa: F401
+    from . import spans as spans  # noqa: F401
     from .almanac.almanac import SpanNotHeld, almanac
     from .almanac.entries import Almanac, Contact, Entry, Event, Group, Numbers, Status
     from .almanac.names import names

@@ -30,7 +30,7 @@ FILES = ((0, 5), (4, 9), (8, 12))
 # Whether all is run, as the gate does by FINDER_TESTS=whole, or a sample.
 IS_WHOLE = os.environ.get("FINDER_TESTS") == "whole"
 # A test of which a sample has nothing.
-of_the_whole = unittest.skipUnless(IS_WHOLE, "a sample is run: FINDER_TESTS=whole runs it")
+of_the_whole = unittest.skipUnless(IS_WHOLE, "this is a sample")
 
 
 def sample(items, every):

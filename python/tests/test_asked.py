@@ -66,8 +66,8 @@ class Asked(InFolder):
         for name in ("width", "depth", "workers", "tick"):
             for value in (60.0, "60", True, 1.5):
                 says = [f"{name} is a whole number"] + ([f"write {name}=60"] if value == 60.0 else [])
-                call = lambda name=name, value=value: finder.apsides(YEAR, "moon", **{name: value}, **self.never)
-                self.assert_says(TypeError, says, call)
+                given = {name: value, **self.never}
+                self.assert_says(TypeError, says, lambda given=given: finder.apsides(YEAR, "moon", **given))
         found = finder.apsides(YEAR, "moon", width=np.int64(60), end="2000-02-01", **EARTH)
         self.assertEqual(found.request_words["width"], "60")
 
@@ -86,8 +86,8 @@ class Asked(InFolder):
         self.assertEqual(one, other)
 
     def test_times_that_are_none(self):
-        call = lambda: finder.apsides(YEAR, "moon", start="May", **self.never)
-        self.assert_says(ValueError, ["2000-05-01T12:00:00"], call)
+        says = ["2000-05-01T12:00:00"]
+        self.assert_says(ValueError, says, lambda: finder.apsides(YEAR, "moon", start="May", **self.never))
 
 
 class Barycentre(InFolder):
@@ -131,7 +131,10 @@ class Hints(InFolder):
             (lambda: finder.check("none"), "(1) no file has this name"),
             (lambda: finder.check([YEAR] * 65), "the span is too long for one search: finder.over_files"),
             (lambda: finder.check([YEAR, YEAR]), "(1) a file has a header of its own"),
-            (lambda: finder.apsides(YEAR, "moon", start="2010-01-01", **EARTH), "the span from 2010-01-01T00:00:00 to 2001-01-11T00:00:00 is not within that of the files, from 1999-12-24"),
+            (
+                lambda: finder.apsides(YEAR, "moon", start="2010-01-01", **EARTH),
+                "the span from 2010-01-01T00:00:00 to 2001-01-11T00:00:00 is not within that of the files, from 1999-12-24",
+            ),
             (lambda: finder.conjunctions(YEAR, "mars", "mars", **EARTH), "target= and second= are one body, 'mars'"),
             (lambda: finder.distance(YEAR, "mars", -1, **EARTH), "(1) a cosine is from -1 to 1"),
             (lambda: finder.find(YEAR, "conj", "mars", **EARTH), "an option is missing, not of its form, or not used"),
@@ -192,7 +195,8 @@ class Surface(InFolder):
                 self.assertEqual(options[name].default, default)
                 self.assertIn(f"- {name}: ", inspect.getdoc(search))
             self.assertEqual(list(options)[list(options).index("start") + 1], "end")
-            with self.assertRaisesRegex(TypeError, rf"{search.__name__}\(\) takes no option 'observr': did you mean 'observer'"):
+            says = rf"{search.__name__}\(\) takes no option 'observr': did you mean 'observer'"
+            with self.assertRaisesRegex(TypeError, says):
                 search(YEAR, "moon", observr="earth")
         self.assertNotIn("dir", inspect.signature(finder.near).parameters)
         self.assertNotIn("axis", inspect.signature(finder.apsides).parameters)
@@ -210,8 +214,8 @@ class Surface(InFolder):
             self.assertEqual(finder.oppositions(YEAR, target, second, observer=observer, frame=frame), whole)
         for body, said in ((599, "write 5 or 'jupiter'"), (42, "body is one of"), ("PHOBOS", "no body is 'PHOBOS'")):
             self.assert_refused(said, lambda body=body: finder.apsides(YEAR, body, **EARTH))
-        self.assert_refused("there are any, full, annular", lambda: finder.occultations(YEAR, "moon", "sun", DISCS, kind="none"))
-        self.assert_refused("did you mean 'full'", lambda: finder.occultations(YEAR, "moon", "sun", DISCS, kind="total"))
+        for kind, says in (("none", "there are any, full, annular"), ("total", "did you mean 'full'")):
+            self.assert_refused(says, lambda kind=kind: finder.occultations(YEAR, "moon", "sun", DISCS, kind=kind))
         self.assert_refused(
             "start=2000-06-01T00:00:00 is not before end=2000-05-01T00:00:00",
             lambda: finder.apsides(YEAR, "moon", "2000-06-01", "2000-05-01", **EARTH),

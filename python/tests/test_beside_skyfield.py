@@ -81,11 +81,13 @@ class BesideSkyfield(InFolder):
         halves = finder.separation(YEAR, "moon", "sun", cosine=0, **EARTH)
         self.assert_beside(halves, times[values % 2 == 1], phases=True)
 
+    @of_the_whole
     def test_seasons(self):
         times, values = self.turns(lambda time: (self.longitude("sun", time) // 90 % 4).astype(int), 40)
         self.assert_beside(finder.coordinate(YEAR, "sun", "y", **ECL), times[values % 2 == 0])
         self.assert_beside(finder.coordinate(YEAR, "sun", "x", **ECL), times[values % 2 == 1])
 
+    @of_the_whole
     def test_conjunctions_and_oppositions(self):
         pairs = (("mercury", "sun", 10), ("jupiter", "saturn", 40), ("saturn", "sun", 40), ("mars", "jupiter", 40))
         for one, other, step in sample(pairs, 3):
@@ -99,6 +101,7 @@ class BesideSkyfield(InFolder):
             if (apart > 179).any():
                 self.assert_beside(finder.oppositions(YEAR, one, other, **ECL), times[apart > 179])
 
+    @of_the_whole
     def test_stations(self):
         frames = (("ecl", self.longitude), ("eq", self.ascension))
         planets = (("mercury", 5), ("jupiter", 20), ("saturn", 20))

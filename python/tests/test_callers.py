@@ -109,15 +109,18 @@ class Callers(InFolder):
         self.assertEqual(caller.wait(LIMIT), -number)
         self.assert_none_left()
 
+    @of_the_whole
     def test_sigterm(self):
         self.end(ONE, signal.SIGTERM)
 
+    @of_the_whole
     def test_sighup(self):
         self.end(ONE, signal.SIGHUP)
 
     def test_sigkill(self):
         self.end(ONE, signal.SIGKILL)
 
+    @of_the_whole
     def test_a_search_of_a_thread(self):
         self.end(THREAD, signal.SIGKILL, goes_on=True)
 
@@ -151,6 +154,7 @@ class Callers(InFolder):
                 pass
         return list(filter(is_running, found))
 
+    @of_the_whole
     def test_ended_children_that_are_ignored(self):
         killed = stand_in(self.folder, "kill -KILL $$")
         text = IGNORED.format(year=str(YEAR), program=str(killed))
@@ -158,6 +162,7 @@ class Callers(InFolder):
         done = subprocess.run([sys.executable, "-c", text], capture_output=True, text=True, check=False, env=environment)
         self.assertEqual(done.stdout, f"12\nfinder: read fault /none\n{-signal.SIGKILL}\n", done.stderr)
 
+    @of_the_whole
     def test_a_thread_that_is_left(self):
         self.assertEqual(self.begin(THREAD, goes_on=False).wait(LIMIT), 0)
         self.assert_none_left()

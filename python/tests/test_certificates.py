@@ -98,6 +98,7 @@ class OfParts(InFolder):
             self.assertIn(wanted, done.stderr)
             self.assertEqual(done.stdout.decode(), "" if wanted else text)
 
+    @of_the_whole
     def test_sets_of_parts_are_those_of_the_whole(self):
         for kind, target, second, options in (
             ("station", "mercury", None, {**EARTH, "frame": "ecl", "relation": "less"}),

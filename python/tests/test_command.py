@@ -14,7 +14,7 @@ import finder
 from finder import Group
 from finder.commands.dispatch import OF_PROGRAM, WORDS, main
 from tests.almanacs import has
-from tests.common import PROGRAM, TOP, YEAR, InFolder, sample, split_year, stand_in
+from tests.common import PROGRAM, TOP, YEAR, InFolder, of_the_whole, sample, split_year, stand_in
 
 SEASONS = ("almanac", "2000", str(YEAR), "--only", "seasons")
 
@@ -103,6 +103,7 @@ class Output(InFolder):
         # (the same words make the same bytes)
         self.assertEqual(run(*SEASONS, "--format", "ics"), run(*SEASONS, "--format", "ics"))
 
+    @of_the_whole
     def test_no_room_for_it(self):
         for words in sample((SEASONS, ("--help",), ("almanac", "--help")), 2):
             with open("/dev/full", "wb") as full:
@@ -140,18 +141,19 @@ class Output(InFolder):
         self.assertEqual(finder.NoErfa.__bases__, (ImportError,))
 
 
-
 class OfTheProgram(InFolder):
     """The words of the program go to it; what Python makes of its reports."""
 
     ASKED = ("find", "--kind", "apsis", "--target", "earth", "--observer", "sun")
 
+    @of_the_whole
     def test_words_go_to_the_program(self):
         for words in ((*self.ASKED, str(YEAR)), ("check", str(YEAR)), ("gen", "405", "2", "7"), ("find", "--kind", "x")):
             done = started(*words, capture_output=True)
             own = subprocess.run([PROGRAM, *words], capture_output=True, check=False)
             self.assertEqual((done.returncode, done.stdout, done.stderr), (own.returncode, own.stdout, own.stderr))
 
+    @of_the_whole
     def test_help_of_each_word(self):
         for word in OF_PROGRAM:
             status, out, err = run(word, "--help")

@@ -18,7 +18,7 @@ from unittest import mock
 import finder
 from finder.commands import dispatch
 from finder.ephemeris import cache, sums, writing
-from tests.common import IS_WHOLE, PROGRAM, TOP, YEAR, command, wait_for
+from tests.common import IS_WHOLE, PROGRAM, TOP, YEAR, command, of_the_whole, wait_for
 from tests.test_ephemeris_sources import InCache
 
 PROCESSES = 16 if IS_WHOLE else 4
@@ -41,6 +41,7 @@ class Cache(InCache):
     def open(self, **words):
         return finder.Ephemeris.open(YEAR, "2000-05-01", "2000-06-01", **words)
 
+    @of_the_whole
     def test_many_processes_leave_one_text(self):
         running = [self.process("-c", OPENS, str(YEAR)) for _ in range(PROCESSES)]
         sums = {process.communicate()[0] for process in running}
@@ -253,6 +254,7 @@ class Commands(InCache):
         self.assertEqual(texts_in(folder), [])
         self.assertFalse(Path(eph.files[0]).exists())
 
+    @of_the_whole
     def test_publishing(self):
         """`tools/publish` takes the files that `write` gives."""
         eph = finder.Ephemeris.open(YEAR, "2000-05-01", "2000-06-01")

@@ -140,7 +140,6 @@ class Files(InFolder):
         with mock.patch.object(excerpts.scratch, "new_folder", side_effect=OSError(28, "No space left on device")):
             self.assertEqual(Excerpts(sky().files).files(["sun"], *inside).files, sky().files)
 
-
     def test_a_full_disk_leaves_nothing(self):
         """What could be written of an excerpt is removed, and the text itself is searched."""
         parts = Excerpts(sky().files)

@@ -207,6 +207,7 @@ class Satellites(InCache):
         np.testing.assert_array_less(np.abs(distance - 6_795) / speed, 0.0025)
 
     @unittest.skipUnless(has("skyfield"), "there is no skyfield here")
+    @of_the_whole
     def test_places_are_those_of_skyfield(self):
         """Both adapters, of the satellite itself and of Skyfield's, beside Skyfield's places of another UT1."""
         from sgp4.api import Satrec

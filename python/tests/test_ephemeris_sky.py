@@ -47,6 +47,7 @@ class Skies(InCache):
                 self.assertLess(edge.arcseconds, 1.0)
                 self.assertIn(str(edge), "\n".join(sky.titles))
 
+    @of_the_whole
     def test_edges_are_where_the_sun_is(self):
         """Mercury and Venus are beyond the Sun on 2000-05-09 and 2000-06-11 (superior conjunctions, as almanacs have
         them)."""
@@ -110,6 +111,7 @@ class Skies(InCache):
             self.assertLess(np.abs(off).max() / np.abs(series.body(body, times)).max(), 1e-11, body)
         self.assertEqual(sky.frames, ("eq", "ecl"))
 
+    @of_the_whole
     def test_span_of_what_was_opened(self):
         """A sky of what was opened for a span is of that span, and the text has enough around it."""
         eph = finder.Ephemeris.open(YEAR, "2000-03-01", "2000-04-01")
@@ -151,6 +153,7 @@ class BesideSkyfield(InCache):
         a, d = ra.radians, dec.radians
         return np.array([np.cos(d) * np.cos(a), np.cos(d) * np.sin(a), np.sin(d)])
 
+    @of_the_whole
     def test_apparent_places(self):
         """Random times of a year at three places: within a tenth of a milliarcsecond."""
         from skyfield.api import wgs84

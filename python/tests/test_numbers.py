@@ -6,7 +6,7 @@ import unittest
 import numpy as np
 
 import finder
-from tests.common import YEAR, InFolder
+from tests.common import YEAR, InFolder, of_the_whole
 
 EARTH = {"observer": "earth"}
 ECL = {**EARTH, "frame": "ecl"}
@@ -74,6 +74,7 @@ class Numbers(InFolder):
         })
 
     @unittest.skipUnless(has("astropy") and has("pandas"), "astropy or pandas is not here")
+    @of_the_whole
     def test_tables(self):
         numbers = finder.values(finder.oppositions(YEAR, "saturn", **ECL), YEAR)
         table, frame = numbers.to_table(), numbers.to_pandas()

@@ -9,11 +9,10 @@ import subprocess
 import sys
 import tempfile
 import unittest
-from pathlib import Path
 
 import finder
 import finder.plot
-from tests.common import PROGRAM, TOOL, TOP, YEAR, InFolder, sample, split_year
+from tests.common import PROGRAM, TOOL, TOP, YEAR, InFolder, of_the_whole, sample, split_year
 
 EARTH = {"observer": "earth"}
 SPRING = {"start": "2000-03-01", "end": "2000-06-20", **EARTH}
@@ -147,6 +146,7 @@ class Tools(InFolder):
         environment = {**os.environ, "FINDER": str(PROGRAM)}
         return subprocess.run([sys.executable, *map(str, words)], env=environment, capture_output=True, check=False)
 
+    @of_the_whole
     def test_files_in_a_wrong_order(self):
         header, files = split_year(self.folder)
         (self.folder / "catalogue").write_text("apsides --kind apsis --target moon --observer earth\n")

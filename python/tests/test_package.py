@@ -8,6 +8,7 @@ import sys
 import sysconfig
 import tarfile
 import unittest
+import unittest.mock
 import venv
 import zipfile
 
@@ -26,6 +27,7 @@ import finder
 found = finder.conjunctions("de405-2000.asc", "jupiter", "saturn", observer="earth", frame="ecl")
 print(found.time())
 """
+ON_ARM = TOP / "release" / "finder-aarch64-linux"
 HERE = importlib.util.find_spec("setuptools") and importlib.util.find_spec("wheel")
 
 
@@ -41,7 +43,8 @@ class Built(InFolder):
         left = shutil.ignore_patterns("__pycache__", "build", "*.egg-info", ".mypy_cache")
         shutil.copytree(TOP / "python", self.sources, ignore=left)
         (clone / "release").mkdir()
-        shutil.copy(PROGRAM, clone / "release")
+        for program in (PROGRAM, ON_ARM):
+            shutil.copy(program, clone / "release")
         shutil.copy(TOP / "VERSION", clone)
 
     def build(self, sources, kind):
@@ -73,6 +76,16 @@ class Built(InFolder):
         self.assertEqual(wheel.name, f"finder-{finder.__version__}-py3-none-manylinux_2_34_x86_64.whl")
         self.run_lines(wheel)
         self.install(wheel)
+
+    def test_a_wheel_for_arm(self):
+        """It has the program for ARM alone, where the build is one for that machine."""
+        with unittest.mock.patch.dict(os.environ, _PYTHON_HOST_PLATFORM="linux-aarch64"):
+            wheel = self.build(self.sources, "wheel")
+        self.assertEqual(wheel.name, f"finder-{finder.__version__}-py3-none-manylinux_2_34_aarch64.whl")
+        with zipfile.ZipFile(wheel) as file:
+            names = [it for it in file.namelist() if it.startswith("finder/finder-")]
+            self.assertEqual(names, [f"finder/{ON_ARM.name}"])
+            self.assertEqual(file.read(names[0]), ON_ARM.read_bytes())
 
     def install(self, wheel):
         """Installs a wheel in an environment of its own, without the clone and the network, and does what users do."""

@@ -22,7 +22,7 @@ from finder.almanac.html import HALF, WHOLE, periods
 from finder.seen import scales
 from finder.seen.scales import ReadyClock, utc_of
 from tests.almanacs import CLOCK, almanac_of_2000, has, undecided_moon, wide_moon
-from tests.common import InFolder
+from tests.common import InFolder, of_the_whole
 
 # Elements that have no end, those that would load or run something, and attributes that would load something.
 VOID = {"meta", "input", "br", "hr"}
@@ -157,6 +157,7 @@ class Pages(InFolder):
             self.assertRegex(whole, rf"Certified window of {name} \(TDB\): 2000-01-21T0\d")
 
     @unittest.skipUnless(has("icalendar"), "no icalendar")
+    @of_the_whole
     def test_calendar_by_icalendar(self):
         import icalendar
 
@@ -193,6 +194,7 @@ class Pages(InFolder):
         self.assertEqual(sum(line.endswith(" 2000") for line in lines), 12)
         self.assertLess(max(map(len, lines)), 125)
 
+    @of_the_whole
     def test_what_is_not_proved_says_so(self):
         for found, count in ((undecided_moon(self.folder), 27), (wide_moon(self.folder), 1)):
             self.assertGreaterEqual(sum(entry.status is finder.Status.UNDECIDED for entry in found.entries), count)
@@ -239,6 +241,7 @@ class Drawings(unittest.TestCase):
                 others = [box for box in boxes if box[2] == y and box[3] != name]
                 self.assertTrue(all(right <= box[0] + 1 or box[1] <= left + 1 for box in others), name)
 
+    @of_the_whole
     def test_marks(self):
         """Each phase, station, opposition and conjunction of the year has its mark."""
         found = almanac_of_2000()

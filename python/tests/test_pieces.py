@@ -7,7 +7,7 @@ from unittest import mock
 
 import finder
 from finder.searches import pieces
-from tests.common import PROGRAM, TOOL, TOP, YEAR, InFolder, command, split_year
+from tests.common import PROGRAM, TOOL, TOP, YEAR, InFolder, command, of_the_whole, split_year
 
 EARTH = {"observer": "earth"}
 DISCS = (1737.4, 6378.1)
@@ -46,6 +46,7 @@ class Parts(InFolder):
         found = finder.apsides([header, *files], "moon", progress=done.append, **EARTH)
         self.assertEqual((found, done), (finder.apsides(YEAR, "moon", **EARTH), [1, 1, 1]))
 
+    @of_the_whole
     def test_bodies_that_almost_cancel(self):
         """The year of the file is longer than a year, and so cut; a part that takes too long is cut again."""
         whole = command("find", *CANCEL, *RADII, YEAR)

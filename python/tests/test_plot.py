@@ -49,7 +49,6 @@ class Curves(InFolder):
         self.assertEqual(len(one.times), 201)
 
 
-
 @unittest.skipUnless(importlib.util.find_spec("matplotlib"), "matplotlib is not here")
 class Pictures(InFolder):
     def setUp(self):

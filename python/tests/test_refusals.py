@@ -10,7 +10,7 @@ import threading
 from fractions import Fraction
 
 import finder
-from tests.common import PROGRAM, REPORT, TOP, YEAR, InFolder, is_running, stand_in, wait_for
+from tests.common import PROGRAM, REPORT, TOP, YEAR, InFolder, is_running, of_the_whole, stand_in, wait_for
 
 LINE = "C 2000-05-28T15:55:49 2000-05-28T15:55:49 fall\n"
 # A change of the report, by which it is none.
@@ -188,6 +188,7 @@ class Stops(InFolder):
         os.mkfifo(pipe)
         self.assertRaises(finder.TimedOut, finder.check, pipe, timeout=0.2)
 
+    @of_the_whole
     def test_an_interrupted_caller(self):
         for call in ("finder.check('a')", f"{SLOW}finder.check('a')", f"finder.over_files({MOONS}, jobs=2)"):
             self.number.unlink(missing_ok=True)

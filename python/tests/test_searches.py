@@ -14,6 +14,7 @@ from tests.common import REPORT, SECOND, TOP, YEAR, InFolder, command
 
 SEEN = {"observer": "earth", "frame": "ecl"}
 RADII = (696_000, "6051.8")
+SPRING = "--from 2000-03-01T00:00:00 --to 2000-08-01T00:00:00"
 # A call, and the words of the command that ask for the same.
 SEARCHES = {
     "--kind coord --target mercury --axis x": lambda: finder.coordinate(YEAR, "mercury", "x"),
@@ -35,7 +36,7 @@ SEARCHES = {
     "--kind oppo --target jupiter --second sun --observer earth --frame ecl --tick 1000": lambda: finder.oppositions(
         YEAR, "jupiter", tick=1000, **SEEN
     ),
-    "--kind station --target mercury --observer earth --frame ecl --from 2000-03-01T00:00:00 --to 2000-08-01T00:00:00": lambda: finder.stations(
+    f"--kind station --target mercury --observer earth --frame ecl {SPRING}": lambda: finder.stations(
         YEAR, "mercury", start="2000-03-01", end="2000-08-01", **SEEN
     ),
     "--kind sep --target venus --second jupiter --observer earth --ref 0.9998476951563913": lambda: finder.separation(

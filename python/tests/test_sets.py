@@ -11,7 +11,7 @@ import numpy as np
 
 import finder
 from finder import Span, Spans, TimeSet
-from tests.common import TOP, YEAR, InFolder, cases, sample, split_year, stand_in
+from tests.common import TOP, YEAR, InFolder, cases, of_the_whole, sample, split_year, stand_in
 
 SEEN = {"observer": "earth", "frame": "ecl"}
 # What the options of words are here.
@@ -156,6 +156,7 @@ class Sets(InFolder):
                     self.found(case)
                 self.assertEqual((caught.exception.status, f"{caught.exception.line}\n"), (case.status, case.err))
 
+    @of_the_whole
     def test_two_references_are_two_sets(self):
         count = {"within": 0, "outside": 0}
         for case in self.cases:

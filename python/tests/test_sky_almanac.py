@@ -103,6 +103,7 @@ class OfAPlace(InFolder):
         self.assertEqual([row.date.day for row in weeks["jupiter"]], [1, 8, 15, 22, 29])
         self.assertEqual(set(weeks), {"mercury", "venus", "mars", "jupiter", "saturn", "uranus"})
 
+    @of_the_whole
     def test_polar_summer(self):
         """At Tromsø the Sun is up all June: the table says so, and so do the notes; nothing is an error."""
         found = finder.almanac(
@@ -142,7 +143,10 @@ class OfAPlace(InFolder):
 
     def test_forms(self):
         found = berlin()
-        rows = list(csv.DictReader(io.StringIO(finder.page(found, "csv", BERLIN), newline="")))
+        reader = csv.DictReader(io.StringIO(finder.page(found, "csv", BERLIN), newline=""))
+        rows = list(reader)
+        names = reader.fieldnames or []
+        self.assertEqual(len(names), len(set(names)), names)
         self.assertEqual({row["group"] for row in rows}, {group.value for group in finder.Group})
         for row in rows:
             # (the column of UTC is UTC, and that of the zone the zone's)
@@ -208,6 +212,7 @@ class ANight(InFolder):
         self.assertIn("it does not get dark", done.stdout)
         self.assertIn("The Sun does not set at any time", done.stdout)
 
+    @of_the_whole
     def test_refused(self):
         cases = (
             (("--on", "2000-01-20"), "a night is of a place"),
@@ -269,6 +274,7 @@ class Mends(InFolder):
         self.assertEqual((made.heads, made.faults), (1, []))
         self.assertTrue(all(table["caption"] for table in made.tables))
 
+    @of_the_whole
     def test_drawings_have_a_text(self):
         text = finder.page(berlin(), "html", BERLIN)
         for svg in re.findall(r"<svg [^>]*role=\"img\".*?</svg>", text, re.S):

@@ -12,6 +12,7 @@ from finder.sky import earth_rotation as rotation
 from finder.sky import place
 from finder.sky.earth_rotation import YEAR, EarthRotation, delta_t_of_history, earth_rotation
 from finder.sky.place import Place
+from tests.common import of_the_whole
 
 HAS_ASTROPY = importlib.util.find_spec("astropy") is not None
 HAS_SKYFIELD = importlib.util.find_spec("skyfield") is not None
@@ -119,6 +120,7 @@ class DeltaT(unittest.TestCase):
         self.assertEqual(doctest.testmod(rotation).failed, 0)
 
     @unittest.skipUnless(HAS_ASTROPY, "there is no astropy here")
+    @of_the_whole
     def test_beside_astropy(self):
         """UT1 since 1972 is astropy's, which goes in straight lines between the days of the table. (Before 1972 erfa's
         `utcut1` leaves out how UTC drifted within a day, by up to 2.6 ms.)"""

@@ -10,7 +10,7 @@ import warnings
 import numpy as np
 
 import finder
-from tests.common import YEAR, InFolder
+from tests.common import YEAR, of_the_whole
 
 HAS = {name: importlib.util.find_spec(name) is not None for name in ("skyfield", "astropy", "erfa", "pandas")}
 BERLIN = "52.52 N 13.40 E 34 m"
@@ -25,6 +25,7 @@ def sky_of(place, start="2000-06-01", end="2000-07-01"):
 
 @unittest.skipUnless(HAS["erfa"], "there is no erfa here")
 class Questions(unittest.TestCase):
+    @of_the_whole
     def test_counts_of_a_month(self):
         """A month of 30 days at Berlin: a sunrise a day, a moonrise a lunar day."""
         sky = sky_of(BERLIN)

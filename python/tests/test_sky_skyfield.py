@@ -9,7 +9,7 @@ import unittest
 import numpy as np
 
 import finder
-from tests.common import IS_WHOLE, YEAR, sample
+from tests.common import IS_WHOLE, YEAR, of_the_whole, sample
 from tests.skyfield_kernel import DAY, J2000, NAMES, kernel_of, scale_of
 
 HERE = importlib.util.find_spec("skyfield") and importlib.util.find_spec("erfa")
@@ -86,6 +86,7 @@ class BesideSkyfield(unittest.TestCase):
         limb = np.degrees(np.arcsin(1737.4 / distance.km)) if body == "moon" and below == 34 / 60 else 0.0
         return altitude.degrees + limb + below
 
+    @of_the_whole
     def test_transits(self):
         for name in PLACES:
             sky = sky_of(name, *SPAN)
@@ -110,6 +111,7 @@ class BesideSkyfield(unittest.TestCase):
             place = list(moments).index(moment)
             self.assertTrue(middle[place] > low if moment.name == "Moon highest" else middle[place] < high)
 
+    @of_the_whole
     def test_thirty_nights_minute_by_minute(self):
         """Dark, Jupiter at least 30 degrees high, the Moon down: no minute of a sure span breaks a condition, and none
         that meets all lies outside the possible ones."""
@@ -148,6 +150,7 @@ class BesideSkyfield(unittest.TestCase):
         angle = apart.separation_from(here("Berlin")("saturn", times_of([meeting.seconds]))).degrees[0]
         self.assertAlmostEqual(meeting.separation, angle, places=6)
 
+    @of_the_whole
     def test_a_meeting_of_date_that_is_none_of_j2000(self):
         """Precession moves two stars at 90 degrees of right ascension, 60 north and 60 south, past one another: in the
         axes of J2000 they never meet, and on the equator of date they do."""

@@ -17,7 +17,7 @@ from pathlib import Path
 
 import finder
 from tests import swiss
-from tests.common import YEAR, sample
+from tests.common import YEAR, of_the_whole, sample
 
 # The seconds by which contacts may differ: the library's place of an observer is up to 200 m from that of Skyfield and
 # of this package (as if nutation were left out of it), and its own search leaves some tenths of a second.
@@ -53,6 +53,7 @@ class BesideSwissEphemeris(unittest.TestCase):
         self.assertEqual(set(ANSWERS), {case.name for case in swiss.CASES})
         self.assertEqual(len({case.day for case in swiss.CASES if case.kind == "occult"}), 10)
 
+    @of_the_whole
     def test_the_year_2000(self):
         self.look(True)
 
@@ -60,6 +61,7 @@ class BesideSwissEphemeris(unittest.TestCase):
     def test_other_years(self):
         self.look(False)
 
+    @of_the_whole
     def test_magnitudes(self):
         """Of the partial eclipse of 25 December 2000 at Washington: magnitude and obscuration."""
         case = next(case for case in swiss.CASES if case.name == "solar 2000-12-25 Washington")

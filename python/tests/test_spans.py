@@ -194,6 +194,7 @@ class Tool(InFolder):
         self.assert_refused("not within the files", "cut", "2", "--to", "2002-01-01T00:00:00", YEAR)
         self.assert_refused("finder: read fault none", "cut", "2", "none")
 
+    @of_the_whole
     def test_parts_are_joined_to_the_whole(self):
         (self.folder / "plan").write_text(self.said("cut", "5", YEAR))
         plan = (self.folder / "plan").read_text()
@@ -243,6 +244,7 @@ class Tool(InFolder):
         self.assertEqual((self.folder / "others" / "2.err").read_text(), "finder: file ascp1.405 line 1: 37 NoBlock\n")
         self.assertFalse((self.folder / "others" / "report").exists())
 
+    @of_the_whole
     def test_what_is_not_joined(self):
         plan = self.said("cut", "3", YEAR)
         (self.folder / "plan").write_text(plan)

@@ -20,7 +20,7 @@ import numpy as np
 
 import finder
 from tests.almanacs import has
-from tests.common import PROGRAM, TOP, YEAR, InFolder, split_year
+from tests.common import PROGRAM, TOP, YEAR, InFolder, of_the_whole, split_year
 
 NEEDED = ("astropy", "erfa", "pandas", "skyfield")
 EARTH = {"observer": "earth"}
@@ -66,6 +66,7 @@ class Tasks(InFolder):
 
 @unittest.skipUnless(all(map(has, NEEDED)), "no astropy, erfa, pandas or skyfield")
 class AlmanacMaker(Tasks):
+    @of_the_whole
     def test_tasks(self):
         year = "examples/de405-2000.asc"
         moons = finder.conjunctions(year, "moon", "sun", "2000-01-01", "2000-04-01", **ECL)
@@ -225,7 +226,9 @@ class Observer(Tasks):
                     same,
                 ),
                 "by pandas Timestamps": (
-                    lambda: finder.apsides(year, "moon", *pandas.date_range("2000-01-01", periods=2, freq="MS", tz="UTC"), **EARTH),
+                    lambda: finder.apsides(
+                        year, "moon", *pandas.date_range("2000-01-01", periods=2, freq="MS", tz="UTC"), **EARTH
+                    ),
                     same,
                 ),
                 "by astropy's": (
@@ -294,6 +297,7 @@ class DataEngineer(Tasks):
             finder.check(YEAR)
         return len(said.output)
 
+    @of_the_whole
     def test_tasks(self):
         import pandas
 

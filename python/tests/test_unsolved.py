@@ -9,7 +9,7 @@ import numpy as np
 
 import finder
 from finder.spans import time_text
-from tests.common import TOP, YEAR, InFolder, split_year
+from tests.common import TOP, YEAR, InFolder, of_the_whole, split_year
 
 ECL = {"observer": "earth", "frame": "ecl"}
 MOONS = (
@@ -86,6 +86,7 @@ class Unsolved(InFolder):
         self.assertTrue(((later > 3.5) & (later < 4.8)).all())
 
     @unittest.skipUnless(importlib.util.find_spec("astropy"), "astropy is not here")
+    @of_the_whole
     def test_times_of_astropy(self):
         found = windows("C 2000-01-06T18:15:27 2000-01-06T18:15:27 fall", "U 2000-02-05T12:00:00 2000-02-05T14:00:00")
         seen = finder.seen(found, YEAR, of_date=False)

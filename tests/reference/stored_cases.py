@@ -11,7 +11,7 @@ import argparse
 import os
 import sys
 from concurrent.futures import ProcessPoolExecutor
-from typing import Iterable, Iterator, NamedTuple, Optional, Sequence
+from typing import Iterable, Iterator, Optional, Sequence
 
 from tests.support.case_runs import Answer, differences
 from tests.support.records import Case, CasesError, listed_counts, read_cases
@@ -20,36 +20,29 @@ from . import answer
 
 SMALL_BYTES = 6_000
 """A case is small if its files have at most so many bytes together."""
-SMALL_STEP, LARGE_STEP = 8, 40
-"""The sample has the first case of each file and each eighth after it that is small, and each fortieth that is not."""
+SMALL_STEP, LARGE_STEP = 16, 80
+"""The sample has the first case of each file, each 16th after it if it is small, and each 80th if it is not."""
 
 
-class Result(NamedTuple):
-    """The name of a case, and what the reference answers otherwise than it is stored, or nothing."""
-
-    name: str
-    differences: list[str]
-
-
-def result_of(case: Case) -> Result:
-    """Answers a case."""
-    return Result(case.name, differences(case, Answer(*answer(case.words, case.files, case.devices))))
+def exact_answer(case: Case) -> Answer:
+    """What the reference answers to a case."""
+    return Answer(*answer(case.words, case.files, case.devices))
 
 
 def sample_of(cases: Sequence[Case]) -> list[Case]:
-    """Each eighth case of a file if it is small, and each fortieth, from the first on."""
+    """Each 16th case of a file if it is small, and each 80th, from the first on."""
     sizes = [sum(map(len, case.files.values())) for case in cases]
     steps = [SMALL_STEP if size <= SMALL_BYTES else LARGE_STEP for size in sizes]
     return [case for number, (case, step) in enumerate(zip(cases, steps)) if number % step == 0]
 
 
-def results_of(cases: Iterable[Case], processes: int) -> Iterator[Result]:
-    """Answers cases in so many processes; the results are in order."""
+def exact_answers(cases: Iterable[Case], processes: int) -> Iterator[Answer]:
+    """What the reference answers to cases, in their order, computed in so many processes."""
     if processes == 1:
-        yield from map(result_of, cases)
+        yield from map(exact_answer, cases)
         return
     with ProcessPoolExecutor(processes) as pool:
-        yield from pool.map(result_of, cases)
+        yield from pool.map(exact_answer, cases, chunksize=4)
 
 
 def compare_file(name: str, is_sample: bool, processes: int) -> int:
@@ -57,10 +50,11 @@ def compare_file(name: str, is_sample: bool, processes: int) -> int:
     cases = read_cases(name)
     chosen = sample_of(cases) if is_sample else cases
     differing = 0
-    for result in results_of(chosen, processes):
-        if result.differences:
+    for case, found in zip(chosen, exact_answers(chosen, processes)):
+        lines = differences(case, found)
+        if lines:
             differing += 1
-            print(f"{name}: {result.name}: {'; '.join(result.differences)}")
+            print(f"{name}: {case.name}: {'; '.join(lines)}")
     print(f"{name}: {len(chosen) - differing} of {len(chosen)} cases are answered as they are stored", flush=True)
     return differing
 
@@ -69,7 +63,7 @@ def arguments(words: Optional[Sequence[str]]) -> argparse.Namespace:
     """The words of the command line."""
     parser = argparse.ArgumentParser(prog="python3 -m tests.reference.stored_cases", description=__doc__)
     parser.formatter_class = argparse.RawDescriptionHelpFormatter
-    parser.add_argument("--sample", action="store_true", help="answer one of eight small cases and one of forty others")
+    parser.add_argument("--sample", action="store_true", help="answer one of 16 small cases and one of 80 others")
     parser.add_argument("--processes", type=int, default=len(os.sched_getaffinity(0)), metavar="N")
     parser.add_argument("files", nargs="*", metavar="FILE.cases", help="files of tests/cases; without them all")
     return parser.parse_args(words)

@@ -64,6 +64,17 @@ skip_all() {
 # Whether all is to be checked, and not a sample.
 is_whole() { [ "${FINDER_TESTS-}" = whole ]; }
 
+# Counts what a sample does not check.
+of_the_whole() { skipped "$1" 'this is a sample'; }
+
+# Prints the first of each so many words that follow the number, or all of them if all is to be checked.
+sample() {
+    every=$1
+    shift
+    ! is_whole || every=1
+    printf '%s\n' "$@" | awk -v every="$every" 'NR % every == 1 || every == 1'
+}
+
 # Finds a python3 that has these modules, as `numpy, erfa`, and puts it into $python; fails where there is none.
 find_python() {
     for python in python3 /usr/bin/python3; do

@@ -17,7 +17,8 @@ from enum import Enum
 from pathlib import Path
 from typing import Callable, Iterable, Iterator, Optional
 
-TOP = Path(__file__).resolve().parents[2]
+from tests.support.settings import SAMPLED, TOP
+
 MAX_SECONDS = 1800
 MAX_SIDE_BY_SIDE = 4
 # How many lines are shown at most of what a part that failed printed.
@@ -123,9 +124,14 @@ class Checks:
         return "" if self.passed + self.failed + skipped else "it checked nothing"
 
     def skips(self) -> Iterator[str]:
-        """A line for each reason why checks were skipped."""
+        """A line for each reason why checks were skipped; what a sample leaves out has its number alone."""
         for why, names in self.skipped.items():
-            yield f"{len(names)} skipped, as {why}: {' '.join(names)}" if len(names) > 1 else f"{names[0]} skipped, as {why}"
+            if why == SAMPLED:
+                yield f"{len(names)} skipped, as {why}"
+            elif len(names) > 1:
+                yield f"{len(names)} skipped, as {why}: {' '.join(names)}"
+            else:
+                yield f"{names[0]} skipped, as {why}"
 
 
 def shortened(lines: list[str]) -> list[str]:

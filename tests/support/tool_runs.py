@@ -12,9 +12,10 @@ from collections.abc import Callable, Mapping
 from pathlib import Path
 from typing import Optional
 
-TOP = Path(__file__).resolve().parents[2]
+from tests.support.settings import SHIPPED, TOP
+
 TOOLS = TOP / "tools"
-PROGRAM = TOP / "release" / "finder-x86_64-linux"
+PROGRAM = SHIPPED
 YEAR = TOP / "examples" / "de405-2000.asc"
 SECONDS = 120
 
@@ -60,6 +61,13 @@ def wait_until(holds: Callable[[], bool], seconds: float = 120) -> bool:
     while not holds() and time.monotonic() < end:
         time.sleep(0.02)
     return holds()
+
+
+def folder_of(tests: "type[unittest.TestCase]") -> Path:
+    """A new folder that the tests of a class share, which goes when they have ended."""
+    folder = tempfile.TemporaryDirectory()
+    tests.addClassCleanup(folder.cleanup)
+    return Path(folder.name)
 
 
 class InFolder(unittest.TestCase):

@@ -76,7 +76,8 @@ class Writing(unittest.TestCase):
                 self.assertEqual(text_of_cases(cases_of(text)), text)
 
     def test_what_is_written_is_read_again(self):
-        case = Case("one", ["ä".encode(), b"", b"--x=\n"], {b"": b"\0\n", b"two words": b""}, {"shelf": "7 1"}, 5, b"", b"end\n")
+        words, files = ["ä".encode(), b"", b"--x=\n"], {b"": b"\0\n", b"two words": b""}
+        case = Case("one", words, files, {"shelf": "7 1"}, 5, b"", b"end\n")
         self.assertEqual(list(cases_of(text_of_cases([case, Case("other", status=0)]))), [case, Case("other", status=0)])
 
 

@@ -7,13 +7,13 @@ import os
 import re
 import shutil
 import subprocess
-import tempfile
 import unittest
 from collections.abc import Callable
 from pathlib import Path
 from typing import Optional
 
-from tests.support.tool_runs import PROGRAM, TOOLS, TOP, YEAR, InFolder, run_program, run_tool
+from tests.support.settings import sample
+from tests.support.tool_runs import PROGRAM, TOOLS, TOP, YEAR, InFolder, folder_of, run_program, run_tool
 
 SEARCHES = {
     "find": "--kind apsis --target moon --observer earth",
@@ -58,9 +58,7 @@ class Joining(InFolder):
 
     @classmethod
     def setUpClass(cls) -> None:
-        folder = tempfile.TemporaryDirectory()
-        cls.addClassCleanup(folder.cleanup)
-        cls.whole = Path(folder.name)
+        cls.whole = folder_of(cls)
         (cls.whole / "plan").write_text(run_tool("spans", "cut", PARTS, YEAR).stdout)
         for command, words in SEARCHES.items():
             for number, line in enumerate((cls.whole / "plan").read_text().splitlines(), 1):
@@ -90,7 +88,7 @@ class Joining(InFolder):
             self.assertEqual(self.join(command).stdout.encode(), run_program(command, *words.split(), YEAR))
 
     def test_each_damage_of_each_part(self) -> None:
-        for place, (name, (change, line)) in enumerate(DAMAGE.items()):
+        for place, (name, (change, line)) in sample(enumerate(DAMAGE.items()), 4):
             command = list(SEARCHES)[place % len(SEARCHES)]
             number = place % PARTS + 1
             part = self.folder / f"{command}-{number}"

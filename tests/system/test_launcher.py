@@ -12,9 +12,11 @@ import unittest
 from pathlib import Path
 
 from tests.support.launcher_repository import EXAMPLE, TOP, make_small_repository
-from tests.support.tool_runs import is_running, wait_until
+from tests.support.tool_runs import folder_of, is_running, wait_until
 
 SECONDS = 120
+# Puts a folder in the place of /dev/null, in a name space of mounts.
+NO_NULL = "mount -t tmpfs none /dev && mkdir /dev/null"
 # A stand-in of the toolchain: it writes its process and that of what it started, and goes on.
 ENDLESS = """\
 #!/bin/sh
@@ -33,9 +35,7 @@ class Launcher(unittest.TestCase):
 
     @classmethod
     def setUpClass(cls) -> None:
-        folder = tempfile.TemporaryDirectory()
-        cls.addClassCleanup(folder.cleanup)
-        cls.copy = Path(folder.name, "copy")
+        cls.copy = folder_of(cls) / "copy"
         make_small_repository(cls.copy)
         cls.wanted = cls.start(cls).stdout
 
@@ -88,6 +88,17 @@ class Launcher(unittest.TestCase):
                 done = subprocess.run(words, cwd=self.copy, stderr=subprocess.PIPE, timeout=SECONDS, check=False)
                 self.assertEqual((done.returncode, done.stderr), (5, b"finder: write fault\n"))
 
+    def test_a_null_device_that_cannot_be_opened_is_named(self) -> None:
+        apart = ["unshare", "-m" if os.geteuid() == 0 else "-rm", "sh", "-c"]
+        how = {"cwd": self.copy, "capture_output": True, "timeout": SECONDS, "check": False}
+        if shutil.which("unshare") is None or subprocess.run([*apart, NO_NULL], **how).returncode:
+            self.skipTest("this system has no mounts for this user")
+        for streams, said in (("", b"finder: /dev/null cannot be opened for writing\n"), ("2>&-", b"")):
+            with self.subTest(streams):
+                done = subprocess.run([*apart, f"{NO_NULL} && exec ./finder check {EXAMPLE} {streams}"], **how)
+                self.assertEqual((done.returncode, done.stdout, done.stderr), (70, b"", said))
+                self.assertFalse((self.copy / "finder.build").exists())
+
 
 class Builds(Launcher):
     """A launcher whose sources were changed, so that it builds."""
@@ -102,6 +113,7 @@ class Builds(Launcher):
     test_a_file_that_is_cut_off_does_nothing = None
     test_a_pipe_in_the_place_of_a_file_that_is_kept = None
     test_closed_streams = None
+    test_a_null_device_that_cannot_be_opened_is_named = None
     test_a_closed_output_is_the_program_s_to_refuse = None
 
     def setUp(self) -> None:

@@ -22,6 +22,8 @@ from typing import Iterator
 
 sys.dont_write_bytecode = True
 sys.path.insert(0, str(Path(__file__).resolve().parents[2]))
+from dev.sources.code import functions_of  # noqa: E402
+from dev.sources.repository import Crate, Repository  # noqa: E402
 from tests.support.case_runs import command_lines  # noqa: E402
 from tests.support.records import CASES, listed_counts, read_cases  # noqa: E402
 from tests.support.settings import SHIPPED, TOP  # noqa: E402
@@ -41,8 +43,7 @@ GROUPS = (
 PLACE = re.compile(r"`((?:crates|dev|docs|tools|python|packaging|bench|release|examples|tests|\.ci)/[\w./+-]+)`")
 WORDS = "no one two three four five six seven eight nine ten eleven twelve thirteen fourteen".split()
 REFUSED = re.compile(r"(.+): ([0-9]+) runs with a request refused, ([0-9]+) of them whole")
-# A function with type parameters, or that of the program, which has the whole runtime; and a row on functions that may wait.
-GENERIC = re.compile(r"\bfn (\w+)\s*<([^{;()]*?)>\s*\(|\bfn (main)\(rt: HostRuntime\)")
+# A row on functions that may wait.
 WAITING_ROW = re.compile(r"^\| `(\w+)` \| ([0-9]+)[^|]*\|([^|]*)\|$", re.MULTILINE)
 IS_WRITING = False
 
@@ -59,10 +60,9 @@ def is_there(name: str) -> bool:
 
 
 def bound_functions(crate: str, bound: str) -> list[str]:
-    """The functions of a crate that may do what this bound allows, by name."""
-    texts = [path.read_text() for path in sorted((TOP / "crates" / crate / "src").glob("*.rt"))]
-    found = [match for text in texts for match in GENERIC.finditer(text)]
-    return [it[1] or it[3] for it in found if it[3] or re.search(rf"\b{bound}\b", it[2])]
+    """The functions of a crate that may do what this bound allows, by name: the program's has the whole runtime."""
+    may = re.compile(rf"fn main\(rt: HostRuntime|[^(]*\b{bound}\b")
+    return [it.name for it in functions_of(f"{TOP}/crates/{crate}") if may.match(it.signature)]
 
 
 def public_with(bound: str) -> set[tuple[str, str]]:
@@ -73,10 +73,10 @@ def public_with(bound: str) -> set[tuple[str, str]]:
     return {(crate, name[1]) for crate, name, line in named if name and re.search(rf"\b{bound}\b", line.split("(")[0])}
 
 
-def heads() -> dict[str, str]:
-    """What crates.txt says of each crate of the program before the colon."""
-    lines = [line.split(":")[0] for line in (TOP / "crates.txt").read_text().splitlines() if re.match(r"[a-z]", line)]
-    return {head.split()[0]: head for head in lines if "tests_may" not in head and "value_cases" not in head}
+def crates() -> dict[str, Crate]:
+    """The crates of the program."""
+    found = Repository(TOP).crates
+    return {name: crate for name, crate in found.items() if not crate.is_of_tests and name != VALUES.parent.name}
 
 
 def section(start: str, end: str = "\n## ") -> str:
@@ -87,16 +87,8 @@ def section(start: str, end: str = "\n## ") -> str:
 
 def bare_functions(crate: str) -> int:
     """How many functions of a crate have no clause: neither an `ensures` nor a trait that gives them one."""
-    number = 0
-    for path in sorted((TOP / "crates" / crate / "src").glob("*.rt")):
-        lines, block = path.read_text().split("\n"), ""
-        for at, line in enumerate(lines):
-            block = line if re.match(r"(?:unsafe )?impl\b", line) else "" if line.startswith("}") else block
-            if not re.match(r" *(?:pub(?:\(crate\))? )?(?:const )?fn \w", line) or " for " in block:
-                continue
-            last = next(it for it in range(at, len(lines)) if re.search(r"^ *\{\}?$| \{$|\{\}$|;$", lines[it]))
-            number += not any(re.match(r" *ensures\b", it) for it in lines[at : last + 1])
-    return number
+    functions = functions_of(f"{TOP}/crates/{crate}")
+    return sum(not it.ensures and it.trait in ("", it.owner) for it in functions)
 
 
 def refused_runs() -> Iterator[tuple[str, str, str]]:
@@ -151,11 +143,10 @@ class Numbers(unittest.TestCase):
         text = section("## Every call returns")
         told = {crate: (int(number), set(re.findall(r"(\w+)`", calls))) for crate, number, calls in WAITING_ROW.findall(text)}
         waiting = public_with("Wait")
-        for crate, head in heads().items():
+        for crate, line in crates().items():
             with self.subTest(crate=crate):
                 number = len(bound_functions(crate, "Wait"))
-                shown = re.search(r"may_wait=([0-9]+)", head)
-                self.assertEqual(int(shown[1]) if shown else 0, number, "crates.txt")
+                self.assertEqual(int(line.mark("may_wait") or 0), number, "crates.txt")
                 calls = {name for it, name in waiting if it == crate}
                 self.assertEqual(told.get(crate, (0, set())), (number, calls), "docs/proved")
         joining = sorted(f"`{name}` of `{crate}`" for crate, name in public_with("Threads") - waiting)
@@ -164,7 +155,7 @@ class Numbers(unittest.TestCase):
     def test_functions_with_no_clause(self) -> None:
         rows = re.findall(r"^\| `(\w+)` \| ([0-9]+) \|", section("## Functions with no clause"), re.MULTILINE)
         told = {crate: int(number) for crate, number in rows}
-        counted = {crate: number for crate, number in ((crate, bare_functions(crate)) for crate in heads()) if number}
+        counted = {crate: number for crate, number in ((crate, bare_functions(crate)) for crate in crates()) if number}
         self.assertEqual(told, counted)
         self.assert_say("([0-9,]+) functions of the program have no clause", sum(counted.values()))
 

@@ -56,6 +56,8 @@ class Parts(unittest.TestCase):
     def test_what_is_skipped_is_shown(self) -> None:
         said = "other\nok 1 - a # SKIP c\nok 2 - b # SKIP c\nok 3 - d # SKIP e\n1..3\n"
         self.assertEqual(outcome_of("a", 0, said, 0).lines, ("2 skipped, as c: a b", "d skipped, as e"))
+        said = "ok 1 - a # SKIP this is a sample\nok 2 - b # SKIP this is a sample\n1..2\n"
+        self.assertEqual(outcome_of("a", 0, said, 0).lines, ("2 skipped, as this is a sample",))
 
     def test_of_many_lines_the_first_and_the_last_are_shown(self) -> None:
         said = "".join(f"line {number}\n" for number in range(100)) + "not ok 1 - a\n1..1\n"

@@ -10,12 +10,12 @@ import shutil
 import signal
 import subprocess
 import sys
-import tempfile
 import unittest
 from pathlib import Path
 from unittest import mock
 
-from tests.support.tool_runs import PROGRAM, TOOLS, TOP, YEAR, Done, InFolder, contents, run_tool
+from tests.support.settings import of_the_whole, sample
+from tests.support.tool_runs import PROGRAM, TOOLS, TOP, YEAR, Done, InFolder, contents, folder_of, run_tool
 
 sys.path.insert(0, str(TOP / "python"))
 from finder.publishing.catalogue import Refused  # noqa: E402
@@ -112,6 +112,7 @@ class Published(InFolder):
         self.assertEqual(contents(again), files)
         self.assertIn("is published", published(self.catalogue, again, YEAR).stderr)
 
+    @of_the_whole
     def test_a_false_certificate_is_not_published(self) -> None:
         begun = self.folder / "begun"
         killed(self.catalogue, begun, YEAR)
@@ -132,7 +133,7 @@ class Published(InFolder):
         self.assertIn("another catalogue", published(other, begun, YEAR).stderr)
 
     def test_catalogues_that_are_refused(self) -> None:
-        for line, why in (
+        rows = (
             (b"", "has no search"),
             (b"Moon --kind apsis", "small letters"),
             (b"\x1b[31m --kind apsis", "hyphens: \\x1b[31m\n"),
@@ -146,7 +147,8 @@ class Published(InFolder):
             (b"moon --kind apsis --target moon --observer earth\r", "catalogue line 1: it has a carriage return"),
             (b"moon --kind apsis --target m\0oon", "catalogue line 1: it has a NUL"),
             (b"moon --kind apsis --target \xff", "is no UTF-8"),
-        ):
+        )
+        for line, why in sample(rows, 4):
             with self.subTest(line):
                 self.catalogue.write_bytes(line + b"\n")
                 done = published(self.catalogue, self.folder / "none", YEAR)
@@ -155,7 +157,7 @@ class Published(InFolder):
                 shutil.rmtree(self.folder / "none", ignore_errors=True)
 
     def test_files_that_are_refused(self) -> None:
-        for name in ("-", "a\nb", "a\rb", "a\\b", "\x1b[31mred"):
+        for name in sample(("-", "a\nb", "a\rb", "a\\b", "\x1b[31mred"), 4):
             with self.subTest(name):
                 shutil.copy(YEAR, self.folder / name)
                 done = published("catalogue", "none", "--", name, cwd=self.folder)
@@ -171,14 +173,15 @@ class Published(InFolder):
         self.catalogue.write_text(TWO)
         on_path = {"FINDER": PROGRAM.name, "PATH": f"{PROGRAM.parent}:/usr/bin:/bin"}
         self.assertEqual(published(self.catalogue, self.folder / "path", YEAR, **on_path).returncode, 0)
-        for jobs in ("0", "65", "many"):
+        for jobs in sample(("0", "65", "many"), 3):
             done = published("--jobs", jobs, self.catalogue, self.folder / "none", YEAR)
             self.assertEqual(done.returncode, 2)
             self.assertIn(f"from 1 to 64: {jobs}\n", done.stderr)
-        for seal in ((), ("--seal", "0" * 63), ("--seal", "f" * 63 + "F")):
+        for seal in sample(((), ("--seal", "0" * 63), ("--seal", "f" * 63 + "F")), 3):
             done = run_tool("publish", "--check", *seal, self.folder / "path", YEAR)
             self.assertEqual((done.returncode, done.stdout), (2, ""), done.stderr)
 
+    @of_the_whole
     def test_a_file_that_is_changed_while_it_is_searched(self) -> None:
         self.catalogue.write_text(TWO)
         data = self.folder / "year"
@@ -191,6 +194,7 @@ class Published(InFolder):
         self.assertIn("INPUTS is not what it was", done.stderr)
         self.assertFalse((self.folder / "unsure" / "SEAL").exists())
 
+    @of_the_whole
     def test_two_runs_in_one_folder(self) -> None:
         made = self.folder / "made"
         made.mkdir()
@@ -209,10 +213,9 @@ class Checked(InFolder):
 
     @classmethod
     def setUpClass(cls) -> None:
-        folder = tempfile.TemporaryDirectory()
-        cls.addClassCleanup(folder.cleanup)
-        cls.whole = Path(folder.name, "whole")
-        catalogue = Path(folder.name, "catalogue")
+        folder = folder_of(cls)
+        cls.whole = folder / "whole"
+        catalogue = folder / "catalogue"
         catalogue.write_text(TWO)
         done = published(catalogue, cls.whole, YEAR)
         assert done.returncode == 0, done.stderr
@@ -260,7 +263,8 @@ class Checked(InFolder):
     def test_junk_in_a_certificate_under_new_sums(self) -> None:
         certificate, report = self.made / "great.cert", self.made / "great.report"
         whole = certificate.read_bytes()
-        for text in (b"", b"junk\n", whole + b"junk\n", whole[:-10], whole.replace(b" N\n", b" R\n", 1)):
+        texts = (b"", b"junk\n", whole + b"junk\n", whole[:-10], whole.replace(b" N\n", b" R\n", 1))
+        for text in sample(texts, 4):
             certificate.write_bytes(text)
             for said in (b"", report.read_bytes()):
                 report.write_bytes(said)
@@ -270,6 +274,7 @@ class Checked(InFolder):
         done = checked(self.made, "--independent")
         self.assertEqual((done.returncode, done.stdout), (1, ""))
 
+    @of_the_whole
     def test_one_more_search_than_verified(self) -> None:
         whole = contents(self.made)
         (self.made / "catalogue").write_text(f"{TWO}mars --kind apsis --target mars --observer sun\n")
@@ -304,6 +309,7 @@ class Checked(InFolder):
         for independent in (False, True):
             self.assert_refused("moon-apsides.cert: ", independent=independent)
 
+    @of_the_whole
     def test_changed_inputs(self) -> None:
         other = self.folder / YEAR.name
         other.write_bytes(YEAR.read_bytes() + b"\n")
@@ -324,7 +330,7 @@ class Checked(InFolder):
         self.assert_refused("and not the one that was named", seal="0" * 64)
 
     def test_each_changed_byte(self) -> None:
-        for name, text in sorted(contents(self.made).items()):
+        for name, text in sample(sorted(contents(self.made).items()), 4):
             for place in sorted({0, len(text) // 2, len(text) - 1}):
                 (self.made / name).write_bytes(text[:place] + bytes([text[place] ^ 1]) + text[place + 1 :])
                 self.assertTrue(self.fault(), f"byte {place} of {name}")
@@ -332,7 +338,8 @@ class Checked(InFolder):
         self.assertEqual(self.fault(), "")
 
     def test_what_is_no_plain_file(self) -> None:
-        for name in ("SEAL", "MANIFEST", "SUMS", "catalogue", "INPUTS", "PROGRAM", "great.cert", "great.report"):
+        names = ("SEAL", "MANIFEST", "SUMS", "catalogue", "INPUTS", "PROGRAM", "great.cert", "great.report")
+        for name in sample(names, 4):
             text = (self.made / name).read_bytes()
             (self.made / name).unlink()
             os.mkfifo(self.made / name)

@@ -1,17 +1,18 @@
-"""./test over copies of the repository in which something is wrong: it fails, and says what."""
+"""./test over copies of the repository in which something is wrong: it fails, and says what.
+
+A sample tries the right copy, a changed byte of the program, a changed case, a missing check, and wrong words."""
 
 import os
 import re
 import shutil
 import subprocess
-import tempfile
 import time
 import unittest
-from pathlib import Path
 
 from tests.support.case_runs import COMPILERS, needs_devices
 from tests.support.records import listed_counts, read_cases
-from tests.support.settings import TOP
+from tests.support.settings import TOP, of_the_whole
+from tests.support.tool_runs import folder_of
 
 COPIED = ("VERSION", "test", "tests", ".ci", "release", "crates.txt", "crates", "dev", "docs", "finder", "examples")
 PROGRAM = "release/finder-x86_64-linux"
@@ -35,9 +36,7 @@ class Refusals(unittest.TestCase):
 
     @classmethod
     def setUpClass(cls):
-        place = tempfile.TemporaryDirectory()
-        cls.addClassCleanup(place.cleanup)
-        cls.room = Path(place.name)
+        cls.room = folder_of(cls)
         cls.copy = cls.room / "copy"
         cls.copy.mkdir()
         for name in COPIED:
@@ -81,6 +80,7 @@ class Refusals(unittest.TestCase):
         self.assertIn("`.ci/run` shows both", said)
         self.assertIn("This was a sample: `FINDER_TESTS=whole ./test` runs all of it", said)
 
+    @of_the_whole
     def test_the_whole_is_no_sample(self):
         status, said = self.run_test("cases/words", FINDER_TESTS="whole")
         self.assertEqual((status, self.last), (0, f"{WORDS} passed, 0 failed"), said)
@@ -94,15 +94,17 @@ class Refusals(unittest.TestCase):
         self.assertRegex(said, r"launcher +0 passed, 0 failed, 1 skipped .* skipped, as it stands on program, which failed")
         self.assertRegex(self.last, r"^\d+ passed, \d+ failed, 1 skipped$")
 
+    @of_the_whole
     def test_a_changed_source(self):
         """The launcher has no program of it, and what reads the sources alone is checked."""
         self.change("crates/gf_find/src/lib.rt", lambda text: text + b"\n")
         status, said = self.run_test("launcher", "public-calls", "cases/layouts")
-        self.assertEqual((status, self.last), (1, f"{LAYOUTS + 4} passed, 1 failed, 1 skipped"), said)
+        self.assertEqual((status, self.last), (1, f"{LAYOUTS + 6} passed, 2 failed, 1 skipped"), said)
         self.assertIn(f"not ok 3 - {PROGRAM} is that of the sources here", said)
         self.assertRegex(said, r"launcher +0 passed, 0 failed, 1 skipped .* skipped, as it stands on program, which failed")
         self.assertRegex(said, r"public-calls +1 passed, 0 failed")
 
+    @of_the_whole
     def test_a_lint_that_fails(self):
         self.change("dev/public-calls.md", lambda text: text.replace(b"fn ", b"fn no_", 1))
         status, said = self.run_test("public-calls")
@@ -115,18 +117,21 @@ class Refusals(unittest.TestCase):
         self.assertEqual((status, self.last), (1, f"{WORDS - 1} passed, 1 failed"), said)
         self.assertRegex(said, r"words-\d+ differs # finder # status 2, where 3 is right")
 
+    @of_the_whole
     def test_a_case_is_left_out(self):
         self.change("tests/cases/words.cases", lambda text: text[: text.rindex(b"case ")])
         status, said = self.run_test("cases/words")
         self.assertEqual(status, 1, said)
         self.assertIn(f"words.cases has {WORDS - 1} cases, and the table of tests/cases/README.md says {WORDS}", said)
 
+    @of_the_whole
     def test_a_file_of_cases_is_cut_off(self):
         self.change("tests/cases/words.cases", lambda text: text[:-3])
         status, said = self.run_test("cases/words")
         self.assertEqual(status, 1, said)
         self.assertRegex(said, r"words.cases: the record at byte \d+ is not in the format of cases")
 
+    @of_the_whole
     def test_a_missing_command(self):
         status, said = self.run_test("launcher", "cases/layouts", PATH=path_without(self.room / "no-sums", {"rt", "sha256sum"}))
         self.assertEqual(status, 1, said)
@@ -134,10 +139,12 @@ class Refusals(unittest.TestCase):
         self.assertIn("launcher 0 passed, 0 failed, 1 skipped", said)
         self.assertIn(f"cases/layouts {LAYOUTS} passed, 0 failed", said)
 
+    @of_the_whole
     def test_no_compiler(self):
         status, said = self.run_test("cases/failing", PATH=path_without(self.room / "no-compiler", {"rt", *COMPILERS}))
         devices = sum(map(needs_devices, read_cases("failing.cases")))
-        self.assertEqual((status, self.last), (0, f"{COUNTS['failing.cases'] - devices} passed, 0 failed, {devices} skipped"), said)
+        plain = COUNTS["failing.cases"] - devices
+        self.assertEqual((status, self.last), (0, f"{plain} passed, 0 failed, {devices} skipped"), said)
         self.assertIn(f"{devices} skipped, as there is no C compiler here (cc, gcc, clang): ", said)
 
     def test_a_check_is_missing(self):
@@ -146,6 +153,7 @@ class Refusals(unittest.TestCase):
         self.assertEqual(status, 1, said)
         self.assertIn("tests/system/launcher cannot be started: No such file or directory", said)
 
+    @of_the_whole
     def test_other_programs(self):
         wrong = self.copy / "wrong"
         wrong.write_text("#!/bin/sh\nexec ./right-no-more\n", "ascii")
@@ -155,6 +163,7 @@ class Refusals(unittest.TestCase):
         status, said = self.run_test("--program", PROGRAM, "cases/layouts")
         self.assertEqual((status, self.last), (0, f"{LAYOUTS} passed, 0 failed"), said)
 
+    @of_the_whole
     def test_an_end_by_a_signal(self):
         room = self.room / "temporary"
         room.mkdir()
@@ -195,7 +204,8 @@ class Lists(unittest.TestCase):
         for file in sorted((TOP / "tests").rglob("test_*.py")):
             name = str(file.relative_to(TOP))
             module = name[: -len(".py")].replace("/", ".")
-            self.assertTrue(name in text or module in text or f"--discover {file.parent.relative_to(TOP)}" in text, name)
+            places = (name, f"--discover {file.parent.relative_to(TOP)}")
+            self.assertTrue(any(place.replace("tests/", "", 1) in text for place in places) or module in text, name)
 
     def test_each_file_of_cases_is_a_part(self):
         listed = re.findall(r'^    cases\("([\w-]+)"', (TOP / "test").read_text("utf-8"), re.MULTILINE)

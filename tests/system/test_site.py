@@ -19,7 +19,7 @@ from html.parser import HTMLParser
 from pathlib import Path
 from urllib.parse import unquote, urlsplit
 
-from tests.support.settings import IS_WHOLE, TOP
+from tests.support.settings import TOP, of_the_whole
 
 FOLDERS = ("bench", "crates", "dev", "docs", "examples", "packaging", "python", "tests")
 # What `docs/build` makes of the crates.
@@ -138,7 +138,7 @@ class Pages(unittest.TestCase):
                 self.assertEqual(done.returncode, 0, done.stdout + done.stderr)
 
 
-@unittest.skipUnless(IS_WHOLE, "this is a sample")
+@of_the_whole
 class Site(unittest.TestCase):
     """The site that Sphinx builds."""
 

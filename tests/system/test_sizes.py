@@ -13,7 +13,7 @@ from datetime import datetime, timedelta
 from pathlib import Path
 from typing import Iterable, Optional
 
-from tests.support.settings import IS_WHOLE, PROGRAM, TOP
+from tests.support.settings import IS_WHOLE, PROGRAM, TOP, of_the_whole
 
 BLOCKS = 5000 if IS_WHOLE else 1000
 DAYS = 32
@@ -132,6 +132,7 @@ class Sizes(unittest.TestCase):
         self.put("three", HEADER + blocks(0, 3))
         self.assertEqual(self.run_program(["find", *NEAR, "three"], SMALL_MEMORY), (8, "", "finder: out of memory\n"))
 
+    @of_the_whole
     def test_a_certificate_of_too_many_leaves_is_refused(self) -> None:
         self.put("three", HEADER + blocks(0, 3))
         refusal = (9, "", "finder: more than 4194304 leaves\n")

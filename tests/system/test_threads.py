@@ -1,8 +1,8 @@
 """How many threads a search starts.
 
 No contract says that work is shared, so this counts. A search of so many workers walks its tree in a thread for each but
-one, the program's own. `find`, `set`, `cert` and `gen` seek still spans before that, in a share of the times for each worker; so they
-start as many threads once more, unless the words ask for what has no still spans, as cuts by thirds."""
+one, the program's own. `find`, `set`, `cert` and `gen` seek still spans before that, in a share of the times for each
+worker; so they start as many threads once more, unless the words ask for what has no still spans, as cuts by thirds."""
 
 from __future__ import annotations
 

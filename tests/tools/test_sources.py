@@ -12,8 +12,20 @@ from dev.sources.public import Crate
 from dev.sources.repository import Repository
 
 FILES = {
-    "crates.txt": "# base: what all stand on\nlow:\n# code: what runs\nmiddle may_wait=2: low std\nhigh: low middle\ntried tests_may=Threads: high\n",
-    "crates/low/src/lib.rt": "//! Numbers that count. They begin at 0:\n//! no more.\n//!\n//! More.\nmod numbers;\npub use numbers::{Number, twice};\n",
+    "crates.txt": """# base: what all stand on
+low:
+# code: what runs
+middle may_wait=2: low std
+high: low middle
+tried tests_may=Threads: high
+""",
+    "crates/low/src/lib.rt": """//! Numbers that count. They begin at 0:
+//! no more.
+//!
+//! More.
+mod numbers;
+pub use numbers::{Number, twice};
+""",
     "crates/low/src/numbers.rt": """// Numbers.
 
 /// A number { of these }.
@@ -98,7 +110,8 @@ class Sources(unittest.TestCase):
 
     def test_crates(self):
         self.assertEqual([*self.house.crates], ["low", "middle", "high", "tried"])
-        self.assertEqual([(it.name, it.says) for it in self.house.layers], [("base", "what all stand on"), ("code", "what runs")])
+        layers = [(it.name, it.says) for it in self.house.layers]
+        self.assertEqual(layers, [("base", "what all stand on"), ("code", "what runs")])
         self.assertEqual(self.house.crates["middle"].mark("may_wait"), "2")
         self.assertTrue(self.house.crates["tried"].is_of_tests)
         self.assertEqual(self.house.above(["middle"]), ["middle", "high", "tried"])
@@ -129,7 +142,8 @@ class Sources(unittest.TestCase):
 
     def test_what_is_public(self):
         crate = Crate(self.house, "low")
-        self.assertEqual([it.line for it in crate.items()], ["struct Number { .. }", "fn Number::new(value: u32) -> Self", "fn twice(n: u32) -> u32"])
+        items = ["struct Number { .. }", "fn Number::new(value: u32) -> Self", "fn twice(n: u32) -> u32"]
+        self.assertEqual([it.line for it in crate.items()], items)
         self.assertEqual([*crate.laws()], [])
 
     def test_calls(self):
@@ -140,12 +154,14 @@ class Sources(unittest.TestCase):
     def test_definitions(self):
         file = definitions_in(self.house, "crates/low/specs/Numbers.antt")
         self.assertEqual([*file.definitions], ["Count", "double", "Kind"])
-        self.assertEqual(file.definitions["Count"].shown, ["-- how many", "record Count : Type 0 where", "  -- the number", "  pub many : ℕ"])
+        lines = ["-- how many", "record Count : Type 0 where", "  -- the number", "  pub many : ℕ"]
+        self.assertEqual(file.definitions["Count"].shown, lines)
         self.assertEqual(file.definitions["double"].bare, ["abbrev pub double : ℕ", "double = n + n"])
         self.assertEqual((file.home("many"), file.home("One"), file.home("Two")), ("Count", "Kind", ""))
         self.assertEqual(file.brought["Listed"].name, "List")
         self.assertEqual(path_of(self.house, "Rattle.low.specs.Numbers.Count"), ("crates/low/specs/Numbers.antt", ("Count",)))
-        self.assertEqual(path_of(self.house, "Rattle.low.specs.declared.numbers.Number"), ("crates/low/src/numbers.rt", ("Number",)))
+        declared = path_of(self.house, "Rattle.low.specs.declared.numbers.Number")
+        self.assertEqual(declared, ("crates/low/src/numbers.rt", ("Number",)))
         self.assertEqual(path_of(self.house, "Rattle.std.specs.Prelude"), ("", ()))
 
     def test_edits(self):

@@ -40,13 +40,17 @@ pub fn answer(n: u32) -> u32
 """,
     "docs/ANSWER.md": "# The answer\n\n<!-- dev/statement --page --to fourfold high answer right -->\n<!-- end -->\n",
 }
-# The words of a call of the tool, the definitions that it prints in their order, and its last line.
+# The options of a call of the tool, the definitions that it prints in their order, and its last line.
 ANSWERS = (
-    (("high", "answer", "right"), ("twice", "Pair", "once", "Answers", "fourfold"), "5 definitions, 14 lines, 2 files, 2 crates"),
-    (("--to", "fourfold", "high", "answer", "right"), ("Pair", "once", "Answers", "fourfold"), "4 definitions, 10 lines, 2 files, 2 crates"),
-    (("--to", "fourfold", "--below", "fourfold", "high", "answer", "right"), ("twice", "fourfold"), "2 definitions, 5 lines, 2 files, 2 crates"),
-    (("--to", "fourfold,once", "--below", "fourfold", "--without", "once", "high", "answer", "right"), ("twice", "fourfold"), "2 definitions, 5 lines, 2 files, 2 crates"),
-)  # fmt: skip
+    ("", ("twice", "Pair", "once", "Answers", "fourfold"), "5 definitions, 14 lines, 2 files, 2 crates"),
+    ("--to fourfold", ("Pair", "once", "Answers", "fourfold"), "4 definitions, 10 lines, 2 files, 2 crates"),
+    ("--to fourfold --below fourfold", ("twice", "fourfold"), "2 definitions, 5 lines, 2 files, 2 crates"),
+    (
+        "--to fourfold,once --below fourfold --without once",
+        ("twice", "fourfold"),
+        "2 definitions, 5 lines, 2 files, 2 crates",
+    ),
+)
 # Words that are refused, and why.
 REFUSED = (
     (("high", "answer", "wrong"), "the crate high has no public function answer with a clause wrong"),
@@ -61,9 +65,9 @@ class Statement(InSmallRepository):
     FILES = FILES
 
     def test_what_a_clause_rests_on(self):
-        for words, names, last in ANSWERS:
-            with self.subTest(words=words):
-                status, lines = self.run_tool(*words)
+        for options, names, last in ANSWERS:
+            with self.subTest(options=options):
+                status, lines = self.run_tool(*options.split(), "high", "answer", "right")
                 heads = [it.removeprefix("abbrev ").split()[1:] for it in lines if it.startswith(("abbrev pub", "pub record"))]
                 found = [(it[1] if it[0] == "record" else it[0]) for it in heads]
                 self.assertEqual((status, tuple(found), lines[-1]), (0, names, last), lines)

@@ -12,6 +12,7 @@ NAMED = {
     "CHANGELOG.md": r"^## ([0-9.]+), ",
     "packaging/changelog": r"^finder \((.+)\) ",
     "release/finder-x86_64-linux.txt": r"^# finder ([0-9.]+) for Linux",
+    "release/finder-aarch64-linux.txt": r"^# finder ([0-9.]+) for Linux",
 }
 
 

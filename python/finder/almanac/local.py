@@ -19,7 +19,7 @@ from ..sky.occultations import Occultation
 from ..sky.place import Place
 from ..sky.sky import Sky
 from .entries import Contact, EclipseKind, Entry, Event, Group, LocalYear, Numbers
-from .texts import STARS, Text, Texts
+from .texts import STARS, Texts
 
 # The groups that an almanac has of a place alone.
 LOCAL = (Group.DAYS, Group.WEEKS)

@@ -49,7 +49,9 @@ figcaption i.line{display:inline-block;width:18px;height:3px;vertical-align:midd
 caption{text-align:left;color:var(--soft);font-size:14px;padding:6px 8px}
 table.days{font-variant-numeric:tabular-nums;margin-bottom:12px}
 table.days th,table.days td{padding:2px 6px;text-align:right;font-size:14px}
-table.days th[scope=colgroup]{text-align:center}table.days thead tr:first-child th:first-child,table.weeks thead th:first-child{text-align:left}table.days tbody th{text-align:left;color:var(--ink);white-space:nowrap}
+table.days th[scope=colgroup]{text-align:center}
+table.days thead tr:first-child th:first-child,table.weeks thead th:first-child{text-align:left}
+table.days tbody th{text-align:left;color:var(--ink);white-space:nowrap}
 table.days small{color:var(--soft)}table.days thead th{font-size:12px}
 tr.sunday th,tr.sunday td{border-bottom-color:var(--soft)}
 div.weeks{display:grid;grid-template-columns:repeat(auto-fill,minmax(250px,1fr));gap:20px}
@@ -103,7 +105,8 @@ table.events,.events tbody,.events caption{display:block}.events thead{display:n
 td.say,td.win{grid-column:3;text-align:left;padding-left:18px!important}td.say:empty,td.win:empty{display:none}
 td.win,tr.moment td.win{font-size:12px;line-height:1.6}td.win:not(:empty)::before{content:"certified "}
 .events tr.several{border-bottom:0;padding-bottom:0}.events tr.moment{padding:2px 0;border-bottom:0}
-.events tr.moment .at{font-size:13px}.events tr.moment:has(+tr:not(.moment)),.events tr.moment:last-child{border-bottom:1px solid var(--line);padding-bottom:7px}
+.events tr.moment .at{font-size:13px}
+.events tr.moment:has(+tr:not(.moment)),.events tr.moment:last-child{border-bottom:1px solid var(--line);padding-bottom:7px}
 tr.eclipses{background:var(--tint)}
 table.days{table-layout:auto}table.days th[scope=colgroup]{display:none}
 table.days th,table.days td{padding:2px 3px}div.weeks{grid-template-columns:1fr}
@@ -118,9 +121,11 @@ h1{font-size:20pt}h2{font-size:12pt;margin:10pt 0 1pt;break-after:avoid}
 figure,tr{break-inside:avoid}figure svg{width:calc(100% - 1pt)}
 figure{margin-bottom:6pt}figcaption{font-size:7.5pt;margin-top:4pt}
 figcaption span{margin-right:8pt}figcaption svg{width:8pt;height:8pt;margin-right:2pt;vertical-align:-1pt}
-th{font-size:7pt;padding:1pt 3pt}td{padding:1.5pt 3pt}caption{font-size:7.5pt;padding:2pt 3pt}td.win,tr.moment td.win{font-size:6.8pt;line-height:1.6}
+th{font-size:7pt;padding:1pt 3pt}td{padding:1.5pt 3pt}caption{font-size:7.5pt;padding:2pt 3pt}
+td.win,tr.moment td.win{font-size:6.8pt;line-height:1.6}
 .day small,tr.moment td{font-size:7.4pt}.events .day{width:34pt}.at{width:38pt}.win{width:94pt}.what{width:172pt}
-tbody .what{padding:1.5pt 3pt 1.5pt 13pt;text-indent:-10pt;font-size:8pt}tbody .what::before{width:5pt;height:5pt;margin-right:5pt}
+tbody .what{padding:1.5pt 3pt 1.5pt 13pt;text-indent:-10pt;font-size:8pt}
+tbody .what::before{width:5pt;height:5pt;margin-right:5pt}
 tr.moment{break-before:avoid}tr.moment .what{font-size:7.4pt}
 table.days th,table.days td{padding:.6pt 2pt;font-size:7pt}table.days thead th{font-size:6.5pt}
 div.weeks{grid-template-columns:repeat(4,1fr);gap:8pt}table.weeks th,table.weeks td{padding:.4pt 2pt;font-size:6.8pt}

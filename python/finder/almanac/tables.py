@@ -51,7 +51,7 @@ def shown_times(found: Almanac, clock: Clock) -> Clock:
 def _exact_times(found: Almanac, clock: Clock) -> Clock:
     """The clock, ready for the milliseconds of entries and contacts, and of what stands in the tables of days and
     weeks."""
-    seconds = [entry.seconds for entry in found.entries]
+    seconds: list[float] = [entry.seconds for entry in found.entries]
     seconds += [contact.seconds for entry in found.entries for contact in entry.contacts]
     seconds += [moment.seconds for _, moment in _daily(found)]
     return ReadyClock.of_times(clock, [each + 5e-4 for each in seconds])
@@ -124,11 +124,12 @@ def _lines_of(entry: Entry, clock: Clock) -> Iterator[str]:
 
 def csv_of(found: Almanac, clock: Clock) -> str:
     """A table with a row for each moment of each entry, as RFC 4180 has it; of a place also one for each rising,
-    transit and setting, and each begin and end of a twilight."""
+    transit and setting, and each begin and end of a twilight. A number of the entry that has the name of one of its
+    moment stands under `event_` and this name."""
     clock = _exact_times(found, clock)
     made = io.StringIO(newline="")
     writer = csv.writer(made)
-    numbers = [field.name for field in fields(Numbers)]
+    numbers = [f"event_{field.name}" if field.name in PLACES else field.name for field in fields(Numbers)]
     writer.writerow([*COLUMNS, *_time_names(clock), "seen_tdb_s", *TIMES, *PLACES, *numbers, "text", "request"])
     for entry in found.entries:
         for contact in entry.contacts:

@@ -46,7 +46,8 @@ PAGE = """\
 <th scope="colgroup" colspan="2">Transit</th><th scope="colgroup" colspan="4">Evening</th>
 <th scope="colgroup" colspan="4" class="moon">Moon</th></tr>
 <tr class="days"><th scope="col" class="tw">18°</th><th scope="col" class="tw">12°</th><th scope="col" class="tw">6°</th>
-<th scope="col">Sun\u00adrise</th><th scope="col" class="tw">at</th><th scope="col" class="tw">alt.</th><th scope="col">Sun\u00adset</th>
+<th scope="col">Sun\u00adrise</th><th scope="col" class="tw">at</th><th scope="col" class="tw">alt.</th>
+<th scope="col">Sun\u00adset</th>
 <th scope="col" class="tw">6°</th><th scope="col" class="tw">12°</th><th scope="col" class="tw">18°</th>
 <th scope="col" class="moon">Moon\u00adrise</th><th scope="col" class="tw">transit</th><th scope="col">Moon\u00adset</th>
 <th scope="col">lit</th></tr>
@@ -82,10 +83,12 @@ PAGE = """\
 {% for planet in weeks %}
 <table class="weeks">
 <caption>{{ planet.name }}, {{ zone }}</caption>
-<thead><tr class="weeks"><th scope="col">Day</th><th scope="col">rises</th><th scope="col">transits</th><th scope="col">sets</th></tr></thead>
+<thead><tr class="weeks"><th scope="col">Day</th><th scope="col">rises</th><th scope="col">transits</th>
+<th scope="col">sets</th></tr></thead>
 <tbody>
 {% for row in planet.rows %}
-<tr class="weeks"><th scope="row">{{ row.day }}</th><td>{{ row.rises }}</td><td>{{ row.transits }}</td><td>{{ row.sets }}</td></tr>
+<tr class="weeks"><th scope="row">{{ row.day }}</th><td>{{ row.rises }}</td><td>{{ row.transits }}</td>
+<td>{{ row.sets }}</td></tr>
 {% endfor %}
 </tbody>
 </table>
@@ -96,7 +99,8 @@ PAGE = """\
 {% for note in notes %}
 <p>{% if note.word %}<b>{{ note.word }}</b>{% endif %}{{ note.rest }}</p>
 {% endfor %}
-<p>Files: {% for file in files %}{{ file.name }} (SHA-256 <code>{{ file.sha256 }}</code>){{ ', ' if not loop.last }}{% endfor %}.</p>
+<p>Files: {% for file in files %}{{ file.name }} (SHA-256 <code>{{ file.sha256 }}</code>){{ ', ' if not loop.last }}{%
+endfor %}.</p>
 </footer>
 </main>
 </body>

@@ -16,7 +16,7 @@ from ..seen.scales import FIRST_UTC_YEAR, UTC, Clock, Scale, zone_of
 from ..sky.place import Place
 
 GROUPS = ", ".join(group.value for group in Group)
-DESCRIPTION = f"""\
+DESCRIPTION = """\
 Prints an almanac of a year, of a month or of several years: the phases, apsides and nodes of the Moon, the seasons,
 eclipses of both sorts with their kinds and contacts, transits, oppositions, conjunctions, stations and greatest
 elongations of the planets, meetings of planets, and of the Moon with them. With --place it has the Sun and the Moon by

@@ -188,7 +188,7 @@ class Reports:
             raise WrongParts(f"{self._planned(number)}, has no report")
         placed, first = found[number - 1], found[0]
         self._refuse_other_span(number, placed)
-        if type(placed.part) is not type(first.part) or placed.part.request != first.part.request:
+        if not isinstance(placed.part, type(first.part)) or placed.part.request != first.part.request:
             raise WrongParts(
                 f"{self._planned(number)}: {placed.place}: it and part 1, {first.place}, are reports of different requests:"
                 f" {placed.part.request} and {first.part.request}"

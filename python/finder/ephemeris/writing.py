@@ -174,7 +174,8 @@ def fields_of(lines: Bytes, numbers: int) -> Bytes:
     """The numbers of blocks as `fields` writes them, by block, number and byte, of the lines of each block."""
     rows = -(-numbers // A_LINE)
     feeds = lines[:, HEAD:].reshape(len(lines), rows, A_LINE * FIELD + 1)
-    return feeds[:, :, :-1].reshape(len(lines), rows * A_LINE, FIELD)
+    found: Bytes = feeds[:, :, :-1].reshape(len(lines), rows * A_LINE, FIELD)
+    return found
 
 
 def contents(text: EphemerisText, start: float, end: float) -> Contents:

@@ -3,14 +3,15 @@
 from __future__ import annotations
 
 import os
+import platform
 import shutil
 from pathlib import Path
 from typing import Optional, Union
 
 from ..public import public
 
-# The program as it is shipped, and as an installed package has it.
-PROGRAM = "finder-x86_64-linux"
+# The program of this machine, as it is shipped, and as an installed package has it.
+PROGRAM = f"finder-{platform.machine()}-linux"
 # As many bytes of a script tell what runs it: pip names a long path of an interpreter on its second line.
 BEGIN = 400
 

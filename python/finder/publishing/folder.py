@@ -12,9 +12,10 @@ from pathlib import Path
 from typing import NamedTuple, Union
 
 from ..process.messages import shown
+from ..process.path import PROGRAM
 from .catalogue import Refused, Search
 
-SHIPPED = Path(__file__).resolve().parents[3] / "release" / "finder-x86_64-linux"
+SHIPPED = Path(__file__).resolve().parents[3] / "release" / PROGRAM
 SEALED = ("SUMS", "MANIFEST")
 OWN = ("catalogue", "INPUTS", "PROGRAM")
 VERIFIED = re.compile(r"(FIND .*\n(?:[CU] .*\n)*(END .*)\n)VERIFIED leaves ([0-9]+)\n")

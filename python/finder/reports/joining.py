@@ -3,7 +3,7 @@
 from __future__ import annotations
 
 from collections.abc import Callable, Iterable, Sequence
-from typing import Optional, TypeVar
+from typing import TypeVar
 
 from ..public import public
 from .report import CertificateText, Part, Report, SetReport, Summary, Window
@@ -121,5 +121,5 @@ def join_parts(parts: Sequence[Part], check_files: Callable[[], Summary]) -> Par
         return join_sets(sets)
     if len(certificates) == len(parts):
         return join_certificates(certificates, check_files())
-    number = next(at for at, part in enumerate(parts, 1) if type(part) is not type(parts[0]))
+    number = next(at for at, part in enumerate(parts, 1) if not isinstance(part, type(parts[0])))
     raise WrongParts(f"part {number} is of another command than part 1: reports, sets and certificates are not joined")

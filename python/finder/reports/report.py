@@ -33,27 +33,34 @@ class Window(NamedTuple):
 
 
 @dataclass(frozen=True)
-class Report:
-    """What `finder find` prints: the request, without its span, the ticks in a second, the ticks after which and up to
-    which it looked, and its windows in order."""
+class OfSearch:
+    """What a search printed: its request, without its span, the ticks in a second, and the first and last tick of its
+    span."""
 
     request: str
     tick: int
     start: int
     end: int
-    windows: tuple[Window, ...]
 
     @property
     def request_words(self) -> dict[str, str]:
         """The words of the request by their names: kind, target, second, observer and so on."""
-        return words_of(self.request, REQUEST)
+        return words_of(self.request, SET_REQUEST if self.request.startswith("SET ") else REQUEST)
 
     asked = renamed("asked", "request_words")
 
     @property
     def span(self) -> str:
-        """The span as the report has it."""
+        """The span as the request has it."""
         return span_text(self.start, self.end, self.tick)
+
+
+@dataclass(frozen=True)
+class Report(OfSearch):
+    """What `finder find` prints: the request, without its span, the ticks in a second, the ticks after which and up to
+    which it looked, and its windows in order."""
+
+    windows: tuple[Window, ...]
 
     def text(self) -> str:
         """The report, letter for letter as the command prints it."""
@@ -67,28 +74,12 @@ class Report:
 
 
 @dataclass(frozen=True)
-class SetReport:
+class SetReport(OfSearch):
     """What `finder set` prints: the request, without its span, the ticks in a second, the first and the last tick of
     the span, and the first and last ticks of its sure and of its possible times, in order."""
 
-    request: str
-    tick: int
-    start: int
-    end: int
     sure: tuple[tuple[int, int], ...]
     possible: tuple[tuple[int, int], ...]
-
-    @property
-    def request_words(self) -> dict[str, str]:
-        """The words of the request by their names."""
-        return words_of(self.request, SET_REQUEST)
-
-    asked = renamed("asked", "request_words")
-
-    @property
-    def span(self) -> str:
-        """The span as the report has it."""
-        return span_text(self.start, self.end, self.tick)
 
     def text(self) -> str:
         """The report, letter for letter as the command prints it."""
@@ -110,27 +101,11 @@ class Piece(NamedTuple):
 
 
 @dataclass(frozen=True)
-class CertificateText:
+class CertificateText(OfSearch):
     """What `finder cert` prints: the request, without its span, the ticks in a second, the span in ticks, and the
     pieces, which follow one another over it."""
 
-    request: str
-    tick: int
-    start: int
-    end: int
     pieces: tuple[Piece, ...]
-
-    @property
-    def request_words(self) -> dict[str, str]:
-        """The words of the request by their names."""
-        return words_of(self.request, REQUEST)
-
-    asked = renamed("asked", "request_words")
-
-    @property
-    def span(self) -> str:
-        """The span as the request has it."""
-        return span_text(self.start, self.end, self.tick)
 
     def text(self) -> str:
         """The certificate, letter for letter as the command prints it."""

@@ -2,7 +2,7 @@
 
 from __future__ import annotations
 
-from typing import Any, Optional, Union, get_args
+from typing import Any, Optional, get_args
 
 from ..ephemeris.named import held, names_of, words_of_request
 from ..ephemeris.names import Files, some_names
@@ -11,7 +11,7 @@ from ..public import public
 from ..reports.calendar import WrongReport, time_text
 from ..reports.joining import join_parts
 from ..reports.reading import read_parts, read_summary
-from ..reports.report import CertificateText, Part, Report, SetReport, Summary
+from ..reports.report import Part, Report, Summary
 from ..reports.windows import Windows
 from .bodies import body_word, frame_word, small
 from .kinds import BODIES, KINDS, Axis, Cut, Direction, FrameWord, Kind, Relation

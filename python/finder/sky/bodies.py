@@ -2,7 +2,8 @@
 
 from __future__ import annotations
 
-# Mean radii in km (docs/guide/recipes.md): of the planets by the IAU's working group of 2015, of the Sun by the IAU's resolution B3 of 2015.
+# Mean radii in km (docs/guide/recipes.md): of the planets by the IAU's working group of 2015, of the Sun by
+# the IAU's resolution B3 of 2015.
 RADII = {
     "sun": 695_700.0,
     "moon": 1_737.4,

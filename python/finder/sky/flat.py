@@ -66,5 +66,3 @@ def _made(sky: SkyText) -> Made:
         "titles": list(text.titles),
     }
     return Made(writing.files(text), about, text)
-
-

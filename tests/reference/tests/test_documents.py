@@ -12,6 +12,7 @@ import unittest
 from pathlib import Path
 
 from tests.reference.documented import Example, examples_of, main
+from tests.support.settings import of_the_whole
 
 
 class Documents(unittest.TestCase):
@@ -27,6 +28,7 @@ class Documents(unittest.TestCase):
     def test_readme(self) -> None:
         self.assertIn("README.md: 1 of 1 commands", self.compare("tests/reference/README.md"))
 
+    @of_the_whole
     def test_formats(self) -> None:
         self.assertRegex(self.compare("docs/guide/formats.md"), r"formats\.md: [1-9][0-9] of [1-9][0-9] commands")
 

@@ -17,6 +17,7 @@ from tests.reference.ephemeris import Column, Ephemeris, Granule, Header
 from tests.reference.expressions import Coordinate, Cosine, Difference, Expression, Length, Product, Quantity
 from tests.reference.expressions import SignedSquare, Sum, passed_limit
 from tests.reference.intervals import MAX_END, Interval
+from tests.support.settings import REFERENCE_ROUNDS
 
 ONE = 2**60
 QUANTITIES: tuple[Quantity, ...] = ("position", "velocity")
@@ -79,7 +80,7 @@ class Intervals(unittest.TestCase):
 
     def test_operations(self) -> None:
         rng = Random(5)
-        for _ in range(1500):
+        for _ in range(100 * REFERENCE_ROUNDS):
             x, y = random_interval(rng), random_interval(rng)
             v = rng.choice([x.lower(), x.upper(), (x.lower() + x.upper()) / 2])
             w = rng.choice([y.lower(), y.upper(), (2 * y.lower() + y.upper()) / 3])
@@ -94,7 +95,7 @@ class Intervals(unittest.TestCase):
 
     def test_scale(self) -> None:
         rng = Random(6)
-        for _ in range(500):
+        for _ in range(34 * REFERENCE_ROUNDS):
             length = rng.choice([1, 2, 3, 2**40, rng.randrange(1, 2**40)])
             ends = [2**126 - 1, 1 - 2**126, 0, rng.randrange(-(2**126) + 1, 2**126), rng.randrange(-9, 9)]
             low, high = sorted(rng.choice(ends) for _ in range(2))
@@ -102,7 +103,7 @@ class Intervals(unittest.TestCase):
 
     def test_normalizing_takes_the_finest_unit(self) -> None:
         rng = Random(7)
-        for _ in range(500):
+        for _ in range(34 * REFERENCE_ROUNDS):
             most = 2 ** rng.randrange(1, 127)
             low, high = sorted(rng.choice([0, most, -most, rng.randrange(-most, most)]) for _ in range(2))
             shift = 0
@@ -133,7 +134,7 @@ class Bases(unittest.TestCase):
 
     def test_rows(self) -> None:
         rng = Random(8)
-        for _ in range(250):
+        for _ in range(17 * REFERENCE_ROUNDS):
             low = rng.choice([-ONE, ONE, 0, 1, -1, ONE // 2, rng.randrange(-ONE, ONE + 1)])
             high = rng.choice([low, ONE, min(ONE, low + 1), rng.randrange(low, ONE + 1)])
             count = rng.choice([1, 2, 3, 32])
@@ -157,7 +158,7 @@ class Motions(unittest.TestCase):
 
     def test_motions(self) -> None:
         rng = Random(9)
-        for _ in range(120):
+        for _ in range(8 * REFERENCE_ROUNDS):
             granule, axis = random_granule(rng), rng.randrange(3)
             span = random_span(rng, granule.start, granule.start + granule.length)
             motion = Motion(granule, span)
@@ -224,7 +225,7 @@ class Enclosures(unittest.TestCase):
     def test_expressions(self) -> None:
         rng = Random(10)
         tried = 0
-        while tried < 150:
+        while tried < 10 * REFERENCE_ROUNDS:
             ephemeris, expression = ephemeris_of_two(rng), random_expression(rng, rng.randrange(5))
             if passed_limit(expression):
                 continue

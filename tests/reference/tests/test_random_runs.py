@@ -10,7 +10,9 @@ import unittest
 from pathlib import Path
 
 from tests.reference.random_runs import SORTS, main, made_run
-from tests.support.settings import SHIPPED
+from tests.support.settings import IS_WHOLE, SHIPPED
+
+RUNS = 60 if IS_WHOLE else 15
 
 
 def runs_here() -> bool:
@@ -37,9 +39,9 @@ class Runs(unittest.TestCase):
 
     @unittest.skipUnless(runs_here(), "the shipped program does not run here")
     def test_the_program(self) -> None:
-        status, said = self.compare("--count", "60")
+        status, said = self.compare("--count", str(RUNS))
         self.assertEqual(status, 0, said)
-        self.assertIn("60 of 60 runs are the reference's", said)
+        self.assertIn(f"{RUNS} of {RUNS} runs are the reference's", said)
 
     def test_a_program_that_answers_otherwise(self) -> None:
         with tempfile.TemporaryDirectory() as folder:

@@ -21,11 +21,9 @@ from tests.reference.requests import ScalarRequest, SearchRequest, read_request
 from tests.reference.searches import Leaf, Window, windows_of
 from tests.reference.times import TimeFault, read_time
 from tests.reference.verdicts import Node, Verdict
-from tests.support.settings import IS_WHOLE
+from tests.support.settings import REFERENCE_ROUNDS
 
 EXAMPLE = Path(__file__).resolve().parents[3] / "examples" / "mercury-crossing.asc"
-ROUNDS = 5 if IS_WHOLE else 1
-"""How many times as much is tried if the whole is run."""
 VERDICTS = {b"rise": Verdict.RISE, b"fall": Verdict.FALL}
 
 
@@ -79,12 +77,12 @@ class Searches(unittest.TestCase):
     def test_random_searches(self) -> None:
         rng = Random(11)
         found = 0
-        for number in range(60 * ROUNDS):
+        for number in range(20 * REFERENCE_ROUNDS):
             files, ephemeris = made(rng)
             words = as_words("find", search_options(rng, ephemeris, 150), list(files))
             with self.subTest(number=number, words=words):
                 found += self.check(rng, ephemeris, search_request(words))
-        self.assertGreater(found, 50, "the searches find events, so that they are tried")
+        self.assertGreater(found, 10 * REFERENCE_ROUNDS, "the searches find events, so that they are tried")
 
     def check(self, rng: Random, ephemeris: Ephemeris, request: SearchRequest) -> int:
         """Compares a search with brute force, and returns how many events there are."""
@@ -169,7 +167,7 @@ class Certificates(unittest.TestCase):
     def test_random_certificates(self) -> None:
         rng = Random(12)
         accepted = 0
-        for number in range(40 * ROUNDS):
+        for number in range(14 * REFERENCE_ROUNDS):
             files, ephemeris = made(rng)
             options = search_options(rng, ephemeris, 100)
             certificate = answer(as_words("cert", options, list(files)), files)
@@ -178,7 +176,7 @@ class Certificates(unittest.TestCase):
             with self.subTest(number=number, options=options):
                 self.check_own(options, files, certificate.output)
                 accepted += self.check_changed(options, files, change_certificate(rng, certificate.output))
-        self.assertGreater(accepted, 2, "some changed certificates are accepted, so that they are tried")
+        self.assertGreater(accepted, REFERENCE_ROUNDS // 5, "some changed certificates are accepted, so that they are tried")
 
     def check_own(self, options: Options, files: Files, certificate: bytes) -> None:
         """A search's own certificate is verified, with the search's report."""
@@ -207,7 +205,7 @@ class Sets(unittest.TestCase):
 
     def test_random_sets(self) -> None:
         rng = Random(13)
-        for number in range(40 * ROUNDS):
+        for number in range(14 * REFERENCE_ROUNDS):
             files, ephemeris = made(rng)
             words = as_words("set", set_options(rng, ephemeris, 100), list(files))
             with self.subTest(number=number, words=words):

@@ -9,7 +9,8 @@ from dataclasses import replace
 from unittest import mock
 
 from tests.reference import stored_cases
-from tests.reference.stored_cases import main, result_of, sample_of
+from tests.reference.stored_cases import exact_answer, main, sample_of
+from tests.support.case_runs import differences
 from tests.support.records import Case, listed_counts, read_cases
 from tests.support.settings import IS_WHOLE
 
@@ -32,7 +33,7 @@ class Cases(unittest.TestCase):
         chosen = {name: sample_of(read_cases(name)) for name in listed_counts()}
         self.assertTrue(all(chosen.values()))
         self.assertTrue(any(case.devices for case in chosen["failing.cases"]))
-        self.assertGreater(sum(map(len, chosen.values())), 200)
+        self.assertGreater(sum(map(len, chosen.values())), 100)
 
 
 class Differences(unittest.TestCase):
@@ -41,7 +42,7 @@ class Differences(unittest.TestCase):
     case = Case("turn", WORDS, {}, {}, 0, OUTPUT, b"")
 
     def test_a_case_that_is_answered_as_it_is_stored(self) -> None:
-        self.assertEqual(result_of(self.case).differences, [])
+        self.assertEqual(differences(self.case, exact_answer(self.case)), [])
 
     def test_each_change_of_a_case_is_a_difference(self) -> None:
         rows = [
@@ -52,7 +53,8 @@ class Differences(unittest.TestCase):
             (replace(self.case, devices={"out-sink": "10 10"}), "status 5, where 0 is right"),
         ]
         for case, difference in rows:
-            self.assertTrue(result_of(case).differences[0].startswith(difference), result_of(case))
+            found = differences(case, exact_answer(case))
+            self.assertTrue(found[0].startswith(difference), found)
 
     def test_it_is_printed_by_its_name(self) -> None:
         said = io.StringIO()

@@ -75,12 +75,12 @@ class LocalEclipse:
     @property
     def visible(self) -> Moments:
         """The contacts at which the body is above the horizon."""
-        return Moments([each for each in self.contacts if each.is_up])
+        return self.contacts.above_horizon()
 
     @property
     def is_visible(self) -> bool:
         """Whether any part of it is above the horizon: a contact is, or the body rises and sets between two."""
-        return any(each.is_up for each in self.contacts)
+        return bool(self.visible)
 
 
 # The contacts of an eclipse of the Sun and of a transit, in order.

@@ -129,6 +129,15 @@ class Moments(Sequence[Moment]):
             return NotImplemented
         return Moments([*self, *other], " ".join(filter(None, [self.said, other.said])))
 
+    def above_horizon(self) -> Moments:
+        """Those at which the body is above the horizon.
+
+        >>> risen = Moment("moonrise", "moon", 0.0, altitude=2.0)
+        >>> len(Moments([risen, Moment("moonset", "moon", 40_000.0, altitude=-1.0)]).above_horizon())
+        1
+        """
+        return Moments([each for each in self if each.is_up])
+
     def __repr__(self) -> str:
         certain = sum(each.is_certain for each in self)
         return f"<Moments: {len(self)}, of which {certain} have a certain window>"

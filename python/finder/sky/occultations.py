@@ -51,12 +51,12 @@ class Occultation:
     @property
     def visible(self) -> Moments:
         """The contacts at which the body is above the horizon."""
-        return Moments([each for each in self.contacts if each.is_up])
+        return self.contacts.above_horizon()
 
     @property
     def is_visible(self) -> bool:
         """Whether the body is above the horizon at a contact."""
-        return any(each.is_up for each in self.contacts)
+        return bool(self.visible)
 
 
 def _named(moments: Iterable[Moment], names: tuple[str, str]) -> list[Moment]:

@@ -121,7 +121,7 @@ class Unsolved(InFolder):
             self.assertTrue((seen.seconds <= found.last / found.tick).all())
 
     def test_later_by_the_way_of_light(self):
-        """An opposition of Jupiter is seen 11.2 minutes later without precession (docs/guide/recipes.md)."""
+        """An opposition of Jupiter is seen 11.2 minutes later without precession (docs/guide/windows.md)."""
         found = finder.oppositions(YEAR, "jupiter", "sun", **ECL)
         self.assertAlmostEqual(finder.seen(found, YEAR, of_date=False).later[0] / 60, 11.2, delta=0.05)
 

@@ -1,9 +1,9 @@
 """The program for 64-bit ARM, under the emulator qemu, on the oldest processor of the architecture: stored cases, over devices
 that fail too, the functions in C that are linked to it, what it needs of a system, and the launcher that chooses it.
 
-A quarter of the cases is run, each as it stands and by one number of workers in its turn. FINDER_ARM=whole runs all cases,
-by each number of workers, which takes half an hour of a processor. It needs Debian's qemu-user and libc6-arm64-cross, and
-gcc-aarch64-linux-gnu for what is compiled."""
+The gate runs a quarter of the cases, and a sample one in a hundred, each as it stands and by one number of workers in its
+turn. FINDER_ARM=whole runs all cases, by each number of workers, which takes half an hour of a processor. It needs Debian's
+qemu-user and libc6-arm64-cross, and gcc-aarch64-linux-gnu for what is compiled."""
 
 from __future__ import annotations
 
@@ -19,7 +19,7 @@ from typing import Callable, Iterator, Optional
 from tests.support.case_runs import SOURCE, WORKERS, CaseRunner, needs_devices
 from tests.support.launcher_repository import EXAMPLE, make_small_repository
 from tests.support.records import Case, listed_counts, read_cases
-from tests.support.settings import TOP
+from tests.support.settings import IS_WHOLE, TOP
 
 PROGRAM = TOP / "release" / "finder-aarch64-linux"
 FUNCTIONS = (TOP / "release" / "arm.c", TOP / "tests" / "support" / "arm_functions.c")
@@ -27,9 +27,9 @@ COMPILER = "aarch64-linux-gnu-gcc"
 EMULATOR = "qemu-aarch64"
 # A processor of ARMv8.0, and where Debian has the C library for it.
 SYSTEM = {"QEMU_CPU": "cortex-a53", "QEMU_LD_PREFIX": "/usr/aarch64-linux-gnu"}
-IS_WHOLE = os.environ.get("FINDER_ARM") == "whole"
-# One case of so many is run in a sample.
-SHARE = 4
+RUNS_ALL = os.environ.get("FINDER_ARM") == "whole"
+# One case of so many is run, by the gate and in a sample.
+SHARE = 4 if IS_WHOLE else 100
 # The newest version of the C library that the program may ask for.
 NEWEST = (2, 34)
 DESCRIBE = '. release/common && of_machine aarch64 && describe "release/$program" "$(sources)" kit >"release/$text"'
@@ -106,8 +106,8 @@ class Cases(ArmTest):
 def sampled() -> Iterator[tuple[Case, tuple[int, ...]]]:
     """The cases that are run, with the numbers of workers."""
     every = [case for file in listed_counts() for case in read_cases(file)]
-    for number, case in enumerate(every if IS_WHOLE else every[::SHARE]):
-        yield case, WORKERS if IS_WHOLE else (WORKERS[number % len(WORKERS)],)
+    for number, case in enumerate(every if RUNS_ALL else every[::SHARE]):
+        yield case, WORKERS if RUNS_ALL else (WORKERS[number % len(WORKERS)],)
 
 
 def test_of(case: Case, workers: tuple[int, ...]) -> Callable[[Cases], None]:

@@ -1,8 +1,9 @@
 """One call of the system after the other fails, in each tool and in the package: there is no wrong result with status 0, what
 was good before is whole, nothing half-written is left, and standard error names the file and the cause.
 
-A sample of the calls is tried, by the gate too. With FINDER_FAULTS=whole in the environment each call fails once with each
-error, which takes tens of minutes. tests/support/faults.c counts the calls; it needs a C compiler and Linux 4.8 or later."""
+A sample tries one call of each kind, and the gate two. With FINDER_FAULTS=whole in the environment each call fails once
+with each error, which takes tens of minutes. tests/support/faults.c counts the calls; it needs a C compiler and Linux 4.8
+or later."""
 
 from __future__ import annotations
 
@@ -19,6 +20,7 @@ from pathlib import Path
 from typing import Optional
 
 from tests.support.launcher_repository import EXAMPLE, make_small_repository
+from tests.support.settings import IS_WHOLE
 from tests.support.tool_runs import PROGRAM, TOOLS, TOP, YEAR, contents, run_program, run_tool
 
 SOURCE = TOP / "tests" / "support" / "faults.c"
@@ -188,7 +190,7 @@ class Faults(unittest.TestCase):
         if FAILS_ALL:
             yield from ((failing, error) for failing in range(1, count + 1) for error in errors)
             return
-        for at, failing in enumerate(sorted({(count + 1) // 2, count} - {0})):
+        for at, failing in enumerate(sorted({(count + 1) // 2, count} - {0})[not IS_WHOLE :]):
             yield failing, errors[(at + len(subject.name)) % len(errors)]
 
     def try_all(self, subject: Subject, calls: "tuple[str, ...]" = tuple(ERRORS)) -> None:

@@ -2,7 +2,8 @@
 
 There is one for Linux on x86-64 and one on 64-bit ARM: `release/finder-x86_64-linux` and `release/finder-aarch64-linux` of
 the clone in which this folder lies, or, in a source distribution, the copies of both that stand in `finder/`. A wheel has
-the one of the machine, and says so. Elsewhere a wheel has no program, and `program=` or the variable FINDER names one. The
+the one of the machine, and says so. Elsewhere a wheel has no program, and `program=` or the variable FINDER names one. For
+x86-64 there is the library too, by which a search runs in the process of its caller. The
 version is that of the clone's `VERSION`, of which what is built has a copy in `finder/`.
 """
 
@@ -22,10 +23,14 @@ except ImportError:
     from wheel.bdist_wheel import bdist_wheel
 
 HERE = Path(__file__).resolve().parent
-MACHINES = ("x86_64", "aarch64")
+# What is shipped for each machine: the program, and the library where there is one.
+SHIPPED = {
+    "x86_64": ("finder-x86_64-linux", "libfinder-x86_64-linux.so"),
+    "aarch64": ("finder-aarch64-linux",),
+}
 VERSION = "VERSION"
 # The machine that is built for, if there is a program for it. The program needs the GNU C library 2.34 or later.
-MACHINE = next((it for it in MACHINES if sysconfig.get_platform() == f"linux-{it}"), None)
+MACHINE = next((it for it in SHIPPED if sysconfig.get_platform() == f"linux-{it}"), None)
 PLATFORM = f"manylinux_2_34_{MACHINE}" if MACHINE else "any"
 
 
@@ -43,24 +48,17 @@ def place_version(folder: Path) -> Path:
     return Path(shutil.copyfile(find_version(), folder / VERSION))
 
 
-def name_of(machine: str) -> str:
-    """The name of the program of a machine."""
-    return f"finder-{machine}-linux"
-
-
-def place_program(folder: Path, machine: str) -> Path:
-    """Copies the program of a machine into a folder, and says where it is."""
-    name = name_of(machine)
-    found = [path for path in (HERE / "finder" / name, HERE.parent / "release" / name) if path.is_file()]
-    if not found:
-        raise SystemExit(
-            f"the program {name} is neither in ../release nor in finder/: build from a clone of the repository, "
-            "with pip 21.3 or later, or from a source distribution"
-        )
-    folder.mkdir(parents=True, exist_ok=True)
-    copy = Path(shutil.copyfile(found[0], folder / name))
-    copy.chmod(0o755)
-    return copy
+def place_shipped(folder: Path, machine: str) -> None:
+    """Copies what is shipped for a machine into a folder."""
+    for name in SHIPPED[machine]:
+        found = [path for path in (HERE / "finder" / name, HERE.parent / "release" / name) if path.is_file()]
+        if not found:
+            raise SystemExit(
+                f"the file {name} is neither in ../release nor in finder/: build from a clone of the repository, "
+                "with pip 21.3 or later, or from a source distribution"
+            )
+        folder.mkdir(parents=True, exist_ok=True)
+        Path(shutil.copyfile(found[0], folder / name)).chmod(0o755)
 
 
 class BuildWithProgram(build_py):
@@ -72,11 +70,11 @@ class BuildWithProgram(build_py):
             return
         place_version(Path(self.build_lib, "finder"))
         if MACHINE:
-            place_program(Path(self.build_lib, "finder"), MACHINE)
+            place_shipped(Path(self.build_lib, "finder"), MACHINE)
 
     def get_outputs(self, include_bytecode: bool = True) -> list[str]:
         made = list(super().get_outputs(include_bytecode))
-        placed = [VERSION, *([name_of(MACHINE)] if MACHINE else [])]
+        placed = [VERSION, *SHIPPED.get(MACHINE or "", ())]
         return made + [str(Path(self.build_lib, "finder", name)) for name in placed]
 
 
@@ -86,8 +84,8 @@ class SourceWithProgram(sdist):
     def make_release_tree(self, base_dir: str, files: list[str]) -> None:
         super().make_release_tree(base_dir, files)
         place_version(Path(base_dir, "finder"))
-        for machine in MACHINES:
-            place_program(Path(base_dir, "finder"), machine)
+        for machine in SHIPPED:
+            place_shipped(Path(base_dir, "finder"), machine)
 
 
 class WithProgram(Distribution):

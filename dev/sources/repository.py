@@ -10,7 +10,7 @@ from functools import cached_property
 from pathlib import Path
 
 TOP = Path(__file__).resolve().parents[2]
-HEAD = re.compile(r"^(\w+)((?: \w+=\S+)*):(.*)$")
+HEAD = re.compile(r"^(\w+)(?: staticlib)?((?: \w+=\S+)*):(.*)$")
 
 
 @dataclass

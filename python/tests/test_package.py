@@ -18,8 +18,10 @@ from tests.common import PROGRAM, REPORT, TOP, YEAR, InFolder, of_the_whole
 
 LINES = """
 import finder
-found = finder.conjunctions({year!r}, "jupiter", "saturn", observer="earth", frame="ecl")
-print(finder.__file__, finder.__version__, found[0].text())
+words = ({year!r}, "jupiter", "saturn")
+found = finder.conjunctions(*words, observer="earth", frame="ecl")
+again = finder.conjunctions(*words, observer="earth", frame="ecl", in_process=True)
+print(finder.__file__, finder.__version__, found[0].text(), again[0].text())
 """
 REQUEST = "find --kind conj --target jupiter --second saturn --observer earth --frame ecl".split()
 README_LINES = """
@@ -28,6 +30,7 @@ found = finder.conjunctions("de405-2000.asc", "jupiter", "saturn", observer="ear
 print(found.time())
 """
 ON_ARM = TOP / "release" / "finder-aarch64-linux"
+LIBRARY = TOP / "release" / "libfinder-x86_64-linux.so"
 HERE = importlib.util.find_spec("setuptools") and importlib.util.find_spec("wheel")
 
 
@@ -43,8 +46,8 @@ class Built(InFolder):
         left = shutil.ignore_patterns("__pycache__", "build", "*.egg-info", ".mypy_cache")
         shutil.copytree(TOP / "python", self.sources, ignore=left)
         (clone / "release").mkdir()
-        for program in (PROGRAM, ON_ARM):
-            shutil.copy(program, clone / "release")
+        for shipped in (PROGRAM, ON_ARM, LIBRARY):
+            shutil.copy(shipped, clone / "release")
         shutil.copy(TOP / "VERSION", clone)
 
     def build(self, sources, kind):
@@ -68,7 +71,8 @@ class Built(InFolder):
         variables["PYTHONPATH"] = str(place)
         words = [sys.executable, "-c", LINES.format(year=str(YEAR))]
         said = subprocess.run(words, cwd=place, env=variables, capture_output=True, text=True, check=False)
-        self.assertEqual(said.stdout, f"{place}/finder/__init__.py {finder.__version__} 2000-05-28T15:55:49\n", said.stderr)
+        shown = f"{place}/finder/__init__.py {finder.__version__} 2000-05-28T15:55:49 2000-05-28T15:55:49\n"
+        self.assertEqual(said.stdout, shown, said.stderr)
 
     def test_a_wheel(self):
         wheel = self.build(self.sources, "wheel")
@@ -83,7 +87,7 @@ class Built(InFolder):
             wheel = self.build(self.sources, "wheel")
         self.assertEqual(wheel.name, f"finder-{finder.__version__}-py3-none-manylinux_2_34_aarch64.whl")
         with zipfile.ZipFile(wheel) as file:
-            names = [it for it in file.namelist() if it.startswith("finder/finder-")]
+            names = [it for it in file.namelist() if it.startswith(("finder/finder-", "finder/libfinder-"))]
             self.assertEqual(names, [f"finder/{ON_ARM.name}"])
             self.assertEqual(file.read(names[0]), ON_ARM.read_bytes())
 

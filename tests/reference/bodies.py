@@ -6,10 +6,10 @@ from functools import lru_cache, partial
 from typing import Callable, Optional
 
 from . import enclosures, intervals
-from .chebyshev import Motion
+from .chebyshev import motion_of
 from .decimals import Decimal
 from .enclosures import Enclosure, Span
-from .ephemeris import Ephemeris
+from .ephemeris import Ephemeris, Granule
 from .expressions import Coordinate, Cosine, Difference, Expression, Length, Product, Quantity, SignedSquare, Sum
 
 EMB, MOON = 3, 10
@@ -34,6 +34,8 @@ ORIGIN = "ssb"
 """The barycentre of the solar system, which is read in no column."""
 REMEMBERED = 32
 """Over how many spans it is remembered what is seen: those of a node, its ends and its middle among them."""
+REMEMBERED_OF_COLUMNS = 1 << 15
+"""How many coordinates of columns are remembered over a span, for other searches of the same file too."""
 
 ECLIPTIC_COSINE = Decimal(917_482_062_069_182, -15)
 ECLIPTIC_SINE = Decimal(397_777_155_931_914, -15)
@@ -52,6 +54,19 @@ def columns_in_use(target: str, observer: str) -> list[int]:
     if {target, observer} == set(PAIR):
         return [MOON]
     return needed_columns(target) + needed_columns(observer)
+
+
+@lru_cache(maxsize=REMEMBERED_OF_COLUMNS)
+def coordinate_of(granule: Granule, quantity: Quantity, axis: int, span: Span) -> Enclosure:
+    """A coordinate of a granule over a span within it, along the axes of the file."""
+    motion = motion_of(granule, span)
+    if quantity == "position":
+        plain, step = motion.position(axis), motion.position_step(axis)
+    else:
+        plain, step = motion.velocity(axis), motion.velocity_step(axis)
+    middle = Span(span.middle, span.middle)
+    mid = plain if span.is_single else coordinate_of(granule, quantity, axis, middle).range
+    return enclosures.enclosed(mid, plain, step, span)
 
 
 class View:
@@ -75,9 +90,8 @@ class Sight:
 
     def __init__(self, view: View, span: Span) -> None:
         self.view, self.span = view, span
-        self._motions: dict[int, Motion] = {}
-        self._columns: dict[tuple[int, Quantity, int], Enclosure] = {}
         self._known: dict[Expression, Enclosure] = {}
+        self._bodies: dict[tuple[str, Quantity, int], Enclosure] = {}
 
     def enclosure(self, expression: Expression) -> Enclosure:
         """The enclosure of an expression, by the rule of each of its operations."""
@@ -127,6 +141,13 @@ class Sight:
         return enclosures.subtract(own, self._barycentric(observer, quantity, axis), self.span)
 
     def _barycentric(self, body: str, quantity: Quantity, axis: int) -> Enclosure:
+        """What `_computed` returns, which is computed once."""
+        key = body, quantity, axis
+        if key not in self._bodies:
+            self._bodies[key] = self._computed(body, quantity, axis)
+        return self._bodies[key]
+
+    def _computed(self, body: str, quantity: Quantity, axis: int) -> Enclosure:
         """A coordinate from the barycentre of the solar system.
 
         The Earth is the barycentre of Earth and Moon less the Moon's share of the Moon's column. The Moon is the Earth
@@ -140,25 +161,5 @@ class Sight:
         return earth if body == "earth" else enclosures.add(earth, moon, self.span)
 
     def _column(self, number: int, quantity: Quantity, axis: int) -> Enclosure:
-        """A coordinate of a column, along the axes of the file."""
-        key = number, quantity, axis
-        if key not in self._columns:
-            motion = self._motion(number)
-            if quantity == "position":
-                plain, step = motion.position(axis), motion.position_step(axis)
-            else:
-                plain, step = motion.velocity(axis), motion.velocity_step(axis)
-            mid = plain if self.span.is_single else self._in_the_middle(number, quantity, axis)
-            self._columns[key] = enclosures.enclosed(mid, plain, step, self.span)
-        return self._columns[key]
-
-    def _in_the_middle(self, number: int, quantity: Quantity, axis: int) -> intervals.Interval:
-        """A coordinate of a column at the tick in the middle, which is in the same granule."""
-        middle = self.view.over(Span(self.span.middle, self.span.middle))
-        return middle._column(number, quantity, axis).range
-
-    def _motion(self, number: int) -> Motion:
-        """The motion of a column over the span, by the granule of the first tick."""
-        if number not in self._motions:
-            self._motions[number] = Motion(self.view.ephemeris.granule(number, self.span.first), self.span)
-        return self._motions[number]
+        """A coordinate of a column, along the axes of the file, by the granule of the first tick."""
+        return coordinate_of(self.view.ephemeris.granule(number, self.span.first), quantity, axis, self.span)

@@ -7,7 +7,7 @@ low end and a high end for each k from 0 on.
 
 from __future__ import annotations
 
-from functools import cached_property
+from functools import cached_property, lru_cache
 from typing import Sequence
 
 from . import intervals
@@ -23,6 +23,9 @@ U_BITS = 50
 Q_BITS = 46
 R_BITS = 44
 COEFFICIENT_BITS = 24
+
+REMEMBERED = 1 << 12
+"""How many motions are remembered."""
 
 
 def argument(first: int, last: int, length: int) -> Pair:
@@ -149,3 +152,9 @@ class Motion:
         low, high = _sum_of_products(self.granule.rate_pairs[axis], self._r)
         low, high = intervals.half_ratio(low, high, self.granule.length)
         return intervals.scale(low, high, -COEFFICIENT_BITS - R_BITS, self.granule.length)
+
+
+@lru_cache(maxsize=REMEMBERED)
+def motion_of(granule: Granule, span: Span) -> Motion:
+    """The motion of a granule over a span; the last ones are remembered."""
+    return Motion(granule, span)

@@ -2,6 +2,7 @@
 
 from __future__ import annotations
 
+from functools import lru_cache
 from typing import Iterator, NamedTuple, Sequence
 
 from . import reports
@@ -22,6 +23,8 @@ from .verdicts import Criteria, Node
 
 MAX_FILES = 64
 """The most files of a run."""
+REMEMBERED = 4
+"""How many ephemerides of one file are remembered."""
 GENERATED_QUERY = Query("conj", "mercury", "venus", "earth")
 """What is searched for in a generated text."""
 
@@ -72,11 +75,19 @@ def _opened(shelf: Shelf, names: Sequence[bytes]) -> Iterator[tuple[bytes, bytes
         yield name, read_file(shelf, name)
 
 
+@lru_cache(maxsize=REMEMBERED)
+def read_one(name: bytes, text: bytes) -> Ephemeris:
+    """The ephemeris of one file; the last ones are remembered, for other runs over the same file."""
+    return read_ephemeris([(name, text)])
+
+
 def open_ephemeris(shelf: Shelf, names: Sequence[bytes]) -> Ephemeris:
     """The ephemeris of files."""
     try:
         if len(names) > MAX_FILES:
             raise FileError(Fault.TooManyFiles, names[MAX_FILES], 0)
+        if len(names) == 1:
+            return read_one(names[0], read_file(shelf, names[0]))
         return read_ephemeris(_opened(shelf, names))
     except FileError as error:
         raise _refused_files(error) from None

@@ -93,6 +93,7 @@ class Ephemeris:
         self.block_length = header.block_seconds * tick
         self.blocks: list[tuple[Decimal, ...]] = []
         self._granules: dict[tuple[int, int], Granule] = {}
+        self._in_ticks: dict[int, Ephemeris] = {}
 
     @property
     def end(self) -> int:
@@ -100,10 +101,12 @@ class Ephemeris:
         return self.start + len(self.blocks) * self.block_length
 
     def in_ticks(self, tick: int) -> Ephemeris:
-        """The same ephemeris with so many ticks to a second."""
-        ticks = Ephemeris(self.header, self.start * tick, tick)
-        ticks.blocks = self.blocks
-        return ticks
+        """The same ephemeris with so many ticks to a second; its granules are made once."""
+        if tick not in self._in_ticks:
+            ticks = Ephemeris(self.header, self.start * tick, tick)
+            ticks.blocks = self.blocks
+            self._in_ticks[tick] = ticks
+        return self._in_ticks[tick]
 
     def has_column(self, number: int) -> bool:
         """Whether a column, by its number from 1, is present."""

@@ -5,7 +5,7 @@ from __future__ import annotations
 from typing import Iterable, NamedTuple, Optional, Protocol
 
 from .bodies import Sight, View
-from .enclosures import Span
+from .enclosures import Enclosure, Span
 from .ephemeris import Ephemeris
 from .intervals import Sign
 from .kinds import Event, Query, event_of
@@ -82,22 +82,28 @@ class EventJudge:
             fails = fails or sign is (Sign.NO if condition.is_at_least else Sign.YES)
         return holds, fails
 
+    def _whole(self, node: Node) -> Enclosure:
+        """The enclosure of the function over a node without a border."""
+        return self.view.over(Span(node.first, node.last)).enclosure(self.event.function)
+
     def _evidence(self, node: Node, crosses: bool) -> Evidence:
         """What is found at a node. If it is one tick wide, the conditions are looked at in that tick alone."""
         over, may_grow, may_shrink = Sign.OPEN, True, True
         sight = self.view.over(Span(node.last if node.width == 1 else node.first, node.last))
         if not crosses:
-            whole = self.view.over(Span(node.first, node.last)).enclosure(self.event.function)
+            whole = self._whole(node)
             over, may_grow, may_shrink = whole.range.sign, whole.step.high > 0, whole.step.low < 0
         conditions = self._conditions(sight)
         at_ends = self.sign_at(node.first), self.sign_at(node.last)
         return Evidence(crosses, *at_ends, over, may_grow, may_shrink, *conditions)
 
     def verdict(self, node: Node) -> Verdict:
-        """What is known of a node."""
+        """What is known of a node. If its function has one sign over it, it is clear, and no more is looked at."""
         crosses = self.border(node) is not None
         if crosses and node.width > 1:
             return Verdict.SPLIT
+        if not crosses and self._whole(node).range.sign is not Sign.OPEN:
+            return Verdict.CLEAR
         return verdict_of(node, self._evidence(node, crosses), self.criteria)
 
     def may_be_cut(self, node: Node) -> bool:

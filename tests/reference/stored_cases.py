@@ -42,7 +42,8 @@ def exact_answers(cases: Iterable[Case], processes: int) -> Iterator[Answer]:
         yield from map(exact_answer, cases)
         return
     with ProcessPoolExecutor(processes) as pool:
-        yield from pool.map(exact_answer, cases, chunksize=4)
+        # (neighbours are often of one file, which a process reads once)
+        yield from pool.map(exact_answer, cases, chunksize=10)
 
 
 def compare_file(name: str, is_sample: bool, processes: int) -> int:

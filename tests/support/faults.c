@@ -3,8 +3,8 @@
        faults CALL ERROR K FOLDER COUNT COMMAND..
 
    CALL is `open`, `write`, `rename`, `fsync`, `fork` or `exec`, and ERROR the number of the error. Of files those count
-   that lie below FOLDER; K is 0 where no call is to fail. The file COUNT gets the number of calls of this kind. It needs no
-   right: the kernel stops each process at such a call (seccomp and ptrace, Linux 4.8 and later). A process that is stopped
+   that lie below FOLDER; K is 0 where no call is to fail. The file COUNT gets the name of the kind and the number of its
+   calls; where CALL is `all`, none fails, and it gets a line for each kind. It needs no right: the kernel stops each process at such a call (seccomp and ptrace, Linux 4.8 and later). A process that is stopped
    so takes no signal, so that no call ends by chance. A `fork` that a signal ends, and the kernel begins again, counts once.
 
    Status: that of the command, or 128 and its signal; 125 where the kernel does not let it trace. */
@@ -69,26 +69,40 @@ static const struct kind KINDS[] = {
     {"exec", {{SYS_execve, NOWHERE, 0, HERE}, {SYS_execveat, NOWHERE, 0, HERE}}},
 };
 
-static const struct kind *kind_of(const char *name) {
-    for (size_t at = 0; at < sizeof KINDS / sizeof *KINDS; at++) {
+enum { KIND_COUNT = sizeof KINDS / sizeof *KINDS };
+
+/* The kinds of a run, which stand side by side in KINDS. */
+struct kinds {
+    size_t first, end;
+};
+
+static struct kinds kinds_of(const char *name) {
+    if (strcmp(name, "all") == 0) {
+        return (struct kinds){0, KIND_COUNT};
+    }
+    for (size_t at = 0; at < KIND_COUNT; at++) {
         if (strcmp(KINDS[at].name, name) == 0) {
-            return &KINDS[at];
+            return (struct kinds){at, at + 1};
         }
     }
     fprintf(stderr, "faults: there is no call %s\n", name);
     exit(CANNOT);
 }
 
-/* Has the kernel stop this process, and those that it starts, at the calls of this kind: 0 where it does. */
-static int begin_stopping(const struct kind *kind) {
-    struct sock_filter filter[2 * MAX_CALLS + 8];
+/* Whether an entry of a kind is a call; its last ones may be empty. */
+static int is_call(const struct call *call) { return call->number || call->argument || call->folder_argument; }
+
+/* Has the kernel stop this process, and those that it starts, at the calls of these kinds: 0 where it does. */
+static int begin_stopping(struct kinds kinds) {
+    struct sock_filter filter[2 * MAX_CALLS * KIND_COUNT + 8];
     unsigned short count = 0;
     filter[count++] = (struct sock_filter)BPF_STMT(BPF_LD | BPF_W | BPF_ABS, offsetof(struct seccomp_data, arch));
     filter[count++] = (struct sock_filter)BPF_JUMP(BPF_JMP | BPF_JEQ | BPF_K, AUDIT_ARCH_X86_64, 1, 0);
     filter[count++] = (struct sock_filter)BPF_STMT(BPF_RET | BPF_K, SECCOMP_RET_ALLOW);
     filter[count++] = (struct sock_filter)BPF_STMT(BPF_LD | BPF_W | BPF_ABS, offsetof(struct seccomp_data, nr));
-    for (const struct call *call = kind->calls; call < kind->calls + MAX_CALLS; call++) {
-        if (call->number || call->argument || call->folder_argument) {
+    for (size_t at = kinds.first * MAX_CALLS; at < kinds.end * MAX_CALLS; at++) {
+        const struct call *call = &KINDS[at / MAX_CALLS].calls[at % MAX_CALLS];
+        if (is_call(call)) {
             filter[count++] = (struct sock_filter)BPF_JUMP(BPF_JMP | BPF_JEQ | BPF_K, (unsigned)call->number, 0, 1);
             filter[count++] = (struct sock_filter)BPF_STMT(BPF_RET | BPF_K, SECCOMP_RET_TRACE);
         }
@@ -164,18 +178,25 @@ static int is_thread(const struct asked *asked) {
 /* Of each process, whether it has begun a `fork` that is not made yet. */
 static unsigned char is_forking[MAX_PROCESSES];
 
-/* Whether a call counts. */
-static int counts(const struct asked *asked, const struct kind *kind, const char *folder) {
-    char path[MAX_PATH];
-    for (const struct call *call = kind->calls; call < kind->calls + MAX_CALLS; call++) {
-        if (call->number == asked->number && (call->number || call->argument || call->folder_argument)) {
-            if (call->place == NOWHERE) {
-                return strcmp(kind->name, "fork") != 0 || (!is_forking[asked->process] && !is_thread(asked));
-            }
-            return path_of(asked, call, path) && strncmp(path, folder, strlen(folder)) == 0;
+/* Finds a call among these kinds, and its kind; it is there, since the process is stopped at such calls alone. */
+static const struct call *find_call(const struct asked *asked, struct kinds kinds, size_t *kind) {
+    for (size_t at = kinds.first * MAX_CALLS; at < kinds.end * MAX_CALLS; at++) {
+        const struct call *call = &KINDS[at / MAX_CALLS].calls[at % MAX_CALLS];
+        if (call->number == asked->number && is_call(call)) {
+            *kind = at / MAX_CALLS;
+            return call;
         }
     }
-    return 0;
+    return NULL;
+}
+
+/* Whether a call counts. */
+static int counts(const struct asked *asked, const struct call *call, int is_fork, const char *folder) {
+    char path[MAX_PATH];
+    if (call->place == NOWHERE) {
+        return !is_fork || (!is_forking[asked->process] && !is_thread(asked));
+    }
+    return path_of(asked, call, path) && strncmp(path, folder, strlen(folder)) == 0;
 }
 
 /* The call at which a process is stopped, and its registers: 0 where it is gone. */
@@ -209,17 +230,36 @@ static void go_on(pid_t process, int status) {
     }
 }
 
-/* Lets the calls be made or fail until no process is left, and returns how many counted. */
-static unsigned long watch(pid_t child, const struct kind *kind, char **words, int *child_status) {
-    const char *folder = words[4];
-    int error = atoi(words[2]), status = 0;
-    unsigned long failing = strtoul(words[3], NULL, 10), count = 0;
+/* Of each kind, how many calls counted. */
+static unsigned long made[KIND_COUNT];
+
+/* Counts the call at which a process is stopped, and has it fail if it is the one. */
+static void count_call(struct user_regs_struct *registers, const struct asked *asked, struct kinds kinds, char **words) {
     /* (the first `exec` is that of the command itself) */
-    int is_begun = strcmp(kind->name, "exec") != 0;
+    static int has_begun = 0;
+    size_t kind = 0;
+    const struct call *call = find_call(asked, kinds, &kind);
+    if (!call) {
+        return;
+    }
+    int is_fork = strcmp(KINDS[kind].name, "fork") == 0, is_first = !has_begun && strcmp(KINDS[kind].name, "exec") == 0;
+    int is_failing = !is_first && counts(asked, call, is_fork, words[4]) && ++made[kind] == strtoul(words[3], NULL, 10);
+    has_begun = has_begun || is_first;
+    if (is_failing) {
+        fail_call(asked->process, registers, atoi(words[2]));
+    }
+    if (is_fork) {
+        is_forking[asked->process] = !is_failing;
+    }
+}
+
+/* Lets the calls be made or fail until no process is left. */
+static void watch(pid_t child, struct kinds kinds, char **words, int *child_status) {
+    int status = 0;
     for (;;) {
         pid_t process = waitpid(-1, &status, __WALL);
         if (process < 0 && errno != EINTR) {
-            return count;
+            return;
         }
         if (process < 0) {
             continue;
@@ -232,21 +272,16 @@ static unsigned long watch(pid_t child, const struct kind *kind, char **words, i
         struct user_regs_struct registers;
         struct asked asked;
         if (status >> 16 == PTRACE_EVENT_SECCOMP && read_call(process, &registers, &asked)) {
-            int is_failing = is_begun && counts(&asked, kind, folder) && ++count == failing;
-            if (is_failing) {
-                fail_call(process, &registers, error);
-            }
-            is_forking[process] = !is_failing;
-            is_begun = 1;
+            count_call(&registers, &asked, kinds, words);
         }
         go_on(process, status);
     }
 }
 
 /* Starts the command once this process is traced, and does not return. */
-static void start(int ready, const struct kind *kind, char **words) {
+static void start(int ready, struct kinds kinds, char **words) {
     char byte;
-    if (read(ready, &byte, 1) == 1 && begin_stopping(kind) == 0) {
+    if (read(ready, &byte, 1) == 1 && begin_stopping(kinds) == 0) {
         execv(words[6], words + 6);
     }
     _exit(CANNOT);
@@ -258,20 +293,22 @@ int main(int count, char **words) {
         fprintf(stderr, "faults: CALL ERROR K FOLDER COUNT COMMAND..\n");
         return CANNOT;
     }
-    const struct kind *kind = kind_of(words[1]);
+    struct kinds kinds = kinds_of(words[1]);
     pid_t child = fork();
     if (child == 0) {
         close(ready[1]);
-        start(ready[0], kind, words);
+        start(ready[0], kinds, words);
     }
     long options = PTRACE_O_TRACESECCOMP | PTRACE_O_TRACEFORK | PTRACE_O_TRACEVFORK | PTRACE_O_TRACECLONE | PTRACE_O_EXITKILL;
     if (child < 0 || ptrace(PTRACE_SEIZE, child, NULL, options) || write(ready[1], "", 1) != 1) {
         return CANNOT;
     }
-    unsigned long calls = watch(child, kind, words, &status);
+    watch(child, kinds, words, &status);
     FILE *file = fopen(words[5], "w");
     if (file) {
-        fprintf(file, "%lu\n", calls);
+        for (size_t at = kinds.first; at < kinds.end; at++) {
+            fprintf(file, "%s %lu\n", KINDS[at].name, made[at]);
+        }
         fclose(file);
     }
     return WIFSIGNALED(status) ? 128 + WTERMSIG(status) : WEXITSTATUS(status);

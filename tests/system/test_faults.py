@@ -82,13 +82,13 @@ class Subject:
 
 @dataclass
 class Ended:
-    """How a run ended: its status, its outputs and the files of its folder."""
+    """How a run ended: its status, its outputs, the files of its folder, and how many calls of each kind it made."""
 
     status: int
     out: bytes
     err: str
     files: "dict[str, bytes]"
-    calls: int
+    calls: "dict[str, int]"
 
 
 def numpy_python() -> Optional[str]:
@@ -162,7 +162,11 @@ class Faults(unittest.TestCase):
             )
         files = {str(path.relative_to(folder)): path.read_bytes() for path in folder.rglob("*") if path.is_file()}
         out_text = files.pop("stdout")
-        return Ended(done.returncode, out_text, done.stderr.decode(errors="replace"), files, int(count.read_text()))
+        return Ended(done.returncode, out_text, done.stderr.decode(errors="replace"), files, self.read_calls())
+
+    def read_calls(self) -> "dict[str, int]":
+        """How many calls of each kind the last run made."""
+        return {call: int(made) for call, made in map(str.split, (self.room / "count").read_text().splitlines())}
 
     def check_run(self, subject: Subject, whole: Ended, ended: Ended, call: str, error: int) -> None:
         """What holds of each run."""
@@ -195,20 +199,19 @@ class Faults(unittest.TestCase):
 
     def try_all(self, subject: Subject, calls: "tuple[str, ...]" = tuple(ERRORS)) -> None:
         """Tries a subject with each kind of call."""
+        whole = self.run_once(subject, "all", 0, 0)
+        self.assertEqual(whole.status, 0, whole.err)
+        self.assertEqual([name for name in subject.makes if name not in whole.files], [])
         for call in calls:
-            whole = self.run_once(subject, call, 0, 0)
-            self.assertEqual(whole.status, 0, whole.err)
-            self.assertEqual([name for name in subject.makes if name not in whole.files], [])
-            for failing, error in self.chosen(subject, call, whole.calls):
+            for failing, error in self.chosen(subject, call, whole.calls[call]):
                 with self.subTest(subject.name, call=call, failing=failing, error=errno.errorcode[error]):
                     self.check_run(subject, whole, self.run_once(subject, call, error, failing), call, error)
 
     def run_shell(self, call: str, error: int, failing: int, text: str) -> "tuple[int, str, int]":
         """The status of a shell in which a call fails, what it said, and how many calls there were."""
-        count = self.room / "count"
-        words = map(str, (self.faults, call, error, failing, self.room, count, "/bin/sh", "-c", text))
+        words = map(str, (self.faults, call, error, failing, self.room, self.room / "count", "/bin/sh", "-c", text))
         done = subprocess.run(list(words), cwd=self.room, capture_output=True, text=True, timeout=SECONDS, check=False)
-        return done.returncode, done.stderr, int(count.read_text())
+        return done.returncode, done.stderr, self.read_calls()[call]
 
     def test_the_call_that_is_named_fails_and_no_other(self) -> None:
         self.assertEqual(self.run_shell("fork", 0, 0, FORKS), (0, "", CHILDREN))
@@ -294,10 +297,10 @@ class Faults(unittest.TestCase):
 
     def try_jobs(self, subject: Subject) -> None:
         """The same of jobs: what failed stands in files, and there is a report only where all is right."""
-        for call in ("open", "write", "rename", "fsync", "fork", "exec"):
-            whole = self.run_once(subject, call, 0, 0)
-            self.assertIn("moons/report", whole.files, whole.err)
-            for failing, error in self.chosen(subject, call, whole.calls):
+        whole = self.run_once(subject, "all", 0, 0)
+        self.assertIn("moons/report", whole.files, whole.err)
+        for call in ERRORS:
+            for failing, error in self.chosen(subject, call, whole.calls[call]):
                 with self.subTest("slurm", call=call, failing=failing, error=errno.errorcode[error]):
                     ended = self.run_once(subject, call, error, failing)
                     for name in (*subject.stays, *subject.makes):

@@ -100,6 +100,11 @@ class Launcher(unittest.TestCase):
                 self.assertFalse((self.copy / "finder.build").exists())
 
 
+def heed_hangups() -> None:
+    """Lets SIGHUP end a process again, which a run by nohup ignores."""
+    signal.signal(signal.SIGHUP, signal.SIG_DFL)
+
+
 class Builds(Launcher):
     """A launcher whose sources were changed, so that it builds."""
 
@@ -142,7 +147,8 @@ class Builds(Launcher):
         """Ends a launcher that builds, by a signal; what it had said. Nothing of the build may run then."""
         words = ["./finder", "check", EXAMPLE]
         how = {"cwd": self.copy, "env": self.environment, "stdin": subprocess.DEVNULL}
-        with subprocess.Popen(words, stdout=subprocess.PIPE, stderr=subprocess.PIPE, **how) as launcher:
+        pipes = {"stdout": subprocess.PIPE, "stderr": subprocess.PIPE, "preexec_fn": heed_hangups}
+        with subprocess.Popen(words, **pipes, **how) as launcher:
             self.assertTrue(wait_until(lambda: len(self.running()) == 2), "no build began")
             launcher.send_signal(number)
             launcher.wait(SECONDS)

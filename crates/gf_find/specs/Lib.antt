@@ -1,6 +1,7 @@
 pub mod CertificateFiles
 pub mod Outcomes
 pub mod Searches
+pub mod Searchers
 pub mod Finds
 pub mod Promises
 pub mod Certifies

@@ -6,20 +6,20 @@ ghost use Rattle.spec_times.specs.Ticks.{IsTimeIn};
 ghost use Rattle.spec_outcomes.specs.Certificates.{certificate_by, certificate_of};
 ghost use Rattle.gf_find.specs.Outcomes.{FilesHaveOutcome, HoldEphemeris};
 ghost use Rattle.gf_find.specs.Certifies.{IsCertificate};
+ghost use Rattle.gf_find.specs.Searchers.{ReturnsLeaves, TakesSearches};
 ghost use Rattle.gf_find.specs.Reported.{AreNotOpened};
 
 use crate::searched::search_files;
+use eph_model::Ephemeris;
 use gf_cert::certificate;
 use gf_check::request_line_over;
-use gf_edges::{Gate, Shelf};
+use gf_edges::Shelf;
 use gf_search::Wanted;
 use spec_certificates::MAX_CERT_LEAVES;
-use spec_outcomes::{Refusal, Span};
+use spec_outcomes::{Query, Refusal, Span};
 use spec_requests::FindAsk;
 use spec_trees::Leaf;
 use std::alloc::Global;
-use std::sync::Wait;
-use std::thread::Threads;
 
 // Returns the certificate of leaves over a span: a line of its format, the line of the request, a line for each leaf,
 // and their number. The only error is out of memory.
@@ -42,14 +42,13 @@ fn certificate_over_span(
 
 /// Searches the ephemeris in the files of a request, and returns the certificate of the search's leaves, or why there
 /// is none.
-pub(crate) fn certificate_in_files<R: Threads + Wait + Sync, S: Shelf, G: Gate>(
-    rt: &R,
-    alloc: Global,
-    shelf: &mut S,
-    find: &FindAsk,
-    gate: &G,
-) -> Result<Vec<u8>, Refusal>
-    requires { IsWithinLimits find.now }
+pub(crate) fn certificate_in_files<
+    S: Shelf,
+    L: Fn(u32, u32, Wanted, &Ephemeris, &Query, Span) -> Result<Vec<Leaf>, Refusal>,
+>(alloc: Global, shelf: &mut S, find: &FindAsk, leaves: &L) -> Result<Vec<u8>, Refusal>
+    requires limits { IsWithinLimits find.now }
+    requires takes_searches { TakesSearches (L.pre leaves.now) }
+    requires returns_leaves { ReturnsLeaves (L.post leaves.now) }
     ensures certificate { IfOk result (λ text. HoldEphemeris
         (S.files shelf.old) find.now.files (IsCertificate find.now text.items)) }
     ensures stopped { IfErr result (λ refusal. (refusal ≡ Refusal.Memory)
@@ -57,15 +56,7 @@ pub(crate) fn certificate_in_files<R: Threads + Wait + Sync, S: Shelf, G: Gate>(
         (certificate_of find.now) (Err refusal)) }
     ensures unopened { AreNotOpened find.now.files → shelf.new ≡ shelf.old }
 {
-    match search_files(
-        rt,
-        alloc,
-        Wanted::Leaves,
-        shelf,
-        find,
-        MAX_CERT_LEAVES,
-        gate,
-    ) {
+    match search_files(alloc, Wanted::Leaves, shelf, find, MAX_CERT_LEAVES, leaves) {
         Ok(found) => certificate_over_span(alloc, find, found.span, &found.leaves),
         Err(refusal) => Err(refusal),
     }

@@ -9,19 +9,19 @@ ghost use Rattle.spec_output.specs.Report.{HasTimes, report};
 ghost use Rattle.spec_outcomes.specs.Outcomes.{report_of};
 ghost use Rattle.gf_find.specs.Outcomes.{FilesHaveOutcome, HoldEphemeris};
 ghost use Rattle.gf_find.specs.Finds.{IsReport};
+ghost use Rattle.gf_find.specs.Searchers.{ReturnsLeaves, TakesSearches};
 ghost use Rattle.gf_find.specs.Reported.{AreNotOpened};
 
 use crate::searched::search_files;
-use gf_edges::{Gate, Shelf};
+use eph_model::Ephemeris;
+use gf_edges::Shelf;
 use gf_search::Wanted;
 use ordered_join::leaf_windows;
-use spec_outcomes::{Refusal, Span};
+use spec_outcomes::{Query, Refusal, Span};
 use spec_output::MAX_LEAVES;
 use spec_requests::FindAsk;
 use spec_trees::Leaf;
 use std::alloc::Global;
-use std::sync::Wait;
-use std::thread::Threads;
 use window_text::report;
 
 // Returns the report of the windows that the leaves of a search make, which cover a span. Times are in the ticks of the
@@ -48,14 +48,13 @@ fn report_of_leaves(
 
 /// Searches the ephemeris in the files of a request, and returns the report of the windows that hold the events, or why
 /// there is none.
-pub(crate) fn search_report_of_files<R: Threads + Wait + Sync, S: Shelf, G: Gate>(
-    rt: &R,
-    alloc: Global,
-    shelf: &mut S,
-    find: &FindAsk,
-    gate: &G,
-) -> Result<Vec<u8>, Refusal>
-    requires { IsWithinLimits find.now }
+pub(crate) fn search_report_of_files<
+    S: Shelf,
+    L: Fn(u32, u32, Wanted, &Ephemeris, &Query, Span) -> Result<Vec<Leaf>, Refusal>,
+>(alloc: Global, shelf: &mut S, find: &FindAsk, leaves: &L) -> Result<Vec<u8>, Refusal>
+    requires limits { IsWithinLimits find.now }
+    requires takes_searches { TakesSearches (L.pre leaves.now) }
+    requires returns_leaves { ReturnsLeaves (L.post leaves.now) }
     ensures report { IfOk result (λ text. HoldEphemeris
         (S.files shelf.old) find.now.files (IsReport find.now text.items)) }
     ensures stopped { IfErr result (λ refusal. (refusal ≡ Refusal.Memory)
@@ -63,7 +62,7 @@ pub(crate) fn search_report_of_files<R: Threads + Wait + Sync, S: Shelf, G: Gate
         (report_of find.now) (Err refusal)) }
     ensures unopened { AreNotOpened find.now.files → shelf.new ≡ shelf.old }
 {
-    match search_files(rt, alloc, Wanted::Windows, shelf, find, MAX_LEAVES, gate) {
+    match search_files(alloc, Wanted::Windows, shelf, find, MAX_LEAVES, leaves) {
         Ok(found) => report_of_leaves(alloc, find, found.span, &found.leaves),
         Err(refusal) => Err(refusal),
     }

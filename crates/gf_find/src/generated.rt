@@ -10,21 +10,19 @@ ghost use Rattle.spec_requests.specs.declared.limits.TheConstants.{MAX_WORKERS};
 ghost use Rattle.spec_output.specs.Report.{generation};
 ghost use Rattle.spec_outcomes.specs.Outcomes.{generation_of};
 ghost use Rattle.gf_find.specs.Generates.{IsGeneration};
+ghost use Rattle.gf_find.specs.Searchers.{ReturnsLeaves, TakesSearches};
 
 use crate::files::ephemeris_of_files;
 use crate::text_shelf::TextShelf;
 use eph_gen::generate;
 use eph_model::Ephemeris;
-use gf_edges::Gate;
 use gf_query::whole_span;
-use gf_search::{Crew, Wanted, leaves};
+use gf_search::Wanted;
 use ordered_join::leaf_windows;
-use spec_outcomes::{Refusal, Span, conjunctions};
+use spec_outcomes::{Query, Refusal, Span, conjunctions};
 use spec_output::MAX_LEAVES;
 use spec_trees::Leaf;
 use std::alloc::Global;
-use std::sync::Wait;
-use std::thread::Threads;
 use window_text::generation;
 
 // Returns the empty name, which is that of the one file of a `TextShelf`.
@@ -67,35 +65,31 @@ fn lines_of_leaves(
 
 // Searches the ephemeris of a generated text of `bytes` bytes for conjunctions, and returns the two lines that `gen`
 // prints, or why there are none.
-fn lines_of_ephemeris<R: Threads + Wait + Sync, G: Gate>(
-    rt: &R,
+fn lines_of_ephemeris<
+    L: Fn(u32, u32, Wanted, &Ephemeris, &Query, Span) -> Result<Vec<Leaf>, Refusal>,
+>(
     alloc: Global,
     blocks: u32,
     seed: u64,
     workers: u32,
     bytes: usize,
     ephemeris: &Ephemeris,
-    gate: &G,
+    leaves: &L,
 ) -> Result<Vec<u8>, Refusal>
     requires some { 0 < blocks }
     requires some_workers { 1 ≤ workers }
     requires workers { workers ≤ MAX_WORKERS }
     requires bytes { bytes ≡ length (generated_text blocks seed) }
     requires same { ephemeris.now ≡ generated_ephemeris blocks seed }
+    requires takes_searches { TakesSearches (L.pre leaves.now) }
+    requires returns_leaves { ReturnsLeaves (L.post leaves.now) }
     ensures lines { IfOk result (λ text. IsGeneration blocks seed text.items) }
     ensures stopped { IfErr result (λ refusal. (refusal ≡ Refusal.Memory)
         ⊎ (generation_of blocks seed ≡ Err refusal)) }
 {
     let span = whole_span(ephemeris);
     let query = conjunctions();
-    let crew = Crew {
-        runtime: rt,
-        alloc,
-        workers,
-        max_leaves: MAX_LEAVES,
-        gate,
-    };
-    match leaves(&crew, Wanted::Leaves, ephemeris, &query, span) {
+    match leaves(workers, MAX_LEAVES, Wanted::Leaves, ephemeris, &query, span) {
         Ok(found) => lines_of_leaves(alloc, blocks, seed, bytes, span, &found),
         Err(refusal) => Err(refusal),
     }
@@ -103,55 +97,44 @@ fn lines_of_ephemeris<R: Threads + Wait + Sync, G: Gate>(
 
 // Reads a generated text, searches its ephemeris for conjunctions, and returns the two lines that `gen` prints, or why
 // there are none.
-fn lines_of_text<R: Threads + Wait + Sync, G: Gate>(
-    rt: &R,
+fn lines_of_text<L: Fn(u32, u32, Wanted, &Ephemeris, &Query, Span) -> Result<Vec<Leaf>, Refusal>>(
     alloc: Global,
     blocks: u32,
     seed: u64,
     workers: u32,
     text: &[u8],
-    gate: &G,
+    leaves: &L,
 ) -> Result<Vec<u8>, Refusal>
     requires some { 0 < blocks }
     requires some_workers { 1 ≤ workers }
     requires workers { workers ≤ MAX_WORKERS }
     requires text { text.now ≡ generated_text blocks seed }
     requires accepted { outcome (text.now ∷ []) ≡ Ok (generated_ephemeris blocks seed) }
+    requires takes_searches { TakesSearches (L.pre leaves.now) }
+    requires returns_leaves { ReturnsLeaves (L.post leaves.now) }
     ensures lines { IfOk result (λ text. IsGeneration blocks seed text.items) }
     ensures stopped { IfErr result (λ refusal. (refusal ≡ Refusal.Memory)
         ⊎ (generation_of blocks seed ≡ Err refusal)) }
 {
     let ephemeris = ephemeris_of_text(alloc, text)?;
-    lines_of_ephemeris(
-        rt,
-        alloc,
-        blocks,
-        seed,
-        workers,
-        text.len(),
-        &ephemeris,
-        gate,
-    )
+    lines_of_ephemeris(alloc, blocks, seed, workers, text.len(), &ephemeris, leaves)
 }
 
 /// Generates the text of `blocks` blocks from this seed, searches its ephemeris for conjunctions, and returns the two
 /// lines that `gen` prints, or why there are none.
-pub(crate) fn lines_of_generation<R: Threads + Wait + Sync, G: Gate>(
-    rt: &R,
-    alloc: Global,
-    blocks: u32,
-    seed: u64,
-    workers: u32,
-    gate: &G,
-) -> Result<Vec<u8>, Refusal>
+pub(crate) fn lines_of_generation<
+    L: Fn(u32, u32, Wanted, &Ephemeris, &Query, Span) -> Result<Vec<Leaf>, Refusal>,
+>(alloc: Global, blocks: u32, seed: u64, workers: u32, leaves: &L) -> Result<Vec<u8>, Refusal>
     requires some { 0 < blocks }
     requires some_workers { 1 ≤ workers }
     requires workers { workers ≤ MAX_WORKERS }
     requires few { blocks ≤ MAX_GENERATED }
+    requires takes_searches { TakesSearches (L.pre leaves.now) }
+    requires returns_leaves { ReturnsLeaves (L.post leaves.now) }
     ensures lines { IfOk result (λ text. IsGeneration blocks seed text.items) }
     ensures stopped { IfErr result (λ refusal. (refusal ≡ Refusal.Memory)
         ⊎ (generation_of blocks seed ≡ Err refusal)) }
 {
     let text = generate(alloc, blocks, seed)?;
-    lines_of_text(rt, alloc, blocks, seed, workers, &text, gate)
+    lines_of_text(alloc, blocks, seed, workers, &text, leaves)
 }

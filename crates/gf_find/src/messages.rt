@@ -208,7 +208,7 @@ fn memory_line() -> &'static [u8]
 }
 
 /// Returns the line that reports why a run is refused, ended by a line feed. The only error is out of memory.
-pub(crate) fn line_of_refusal(alloc: Global, refusal: &Refusal) -> Result<Vec<u8>, AllocError>
+pub fn line_of_refusal(alloc: Global, refusal: &Refusal) -> Result<Vec<u8>, AllocError>
     ensures { IfOk result (λ text. text.items ≡ line_of refusal.now) }
 {
     match refusal {

@@ -6,12 +6,15 @@ ghost use Rattle.spec_requests.specs.declared.request.FindAsk.{FindAsk};
 ghost use Rattle.spec_requests.specs.declared.request.Relation.{Relation};
 ghost use Rattle.spec_requests.specs.declared.request.ScalarAsk.{ScalarAsk};
 ghost use Rattle.spec_requests.specs.declared.request.Request.TheVariants.{Find, Cert, Verify, Check, Gen, Set, Scalar};
+ghost use Rattle.spec_requests.specs.Limits.{IsScalarWithinLimits};
 ghost use Rattle.spec_requests.specs.Requests.{request_of};
 ghost use Rattle.spec_output.specs.Messages.{memory_text, write_text};
 ghost use Rattle.spec_output.specs.Writing.{AppendsPart, Receives};
 ghost use Rattle.gf_edges.specs.Edges.{Rose};
 ghost use Rattle.gf_find.specs.Outcomes.{Ask, HaveCause, HaveOutcome, HoldEphemeris, texts_of};
+ghost use Rattle.spec_outcomes.specs.Queries.{IsQuery};
 ghost use Rattle.spec_outcomes.specs.Refusals.{line_of, status_of};
+ghost use Rattle.spec_outcomes.specs.Sets.{IsSetQuery};
 ghost use Rattle.gf_find.specs.Finds.{ReportsEvents};
 ghost use Rattle.gf_find.specs.Promises.{ReportsAllEvents};
 ghost use Rattle.gf_find.specs.Certifies.{ReportsCertificate};
@@ -21,12 +24,16 @@ ghost use Rattle.gf_find.specs.Generates.{ReportsGeneration};
 ghost use Rattle.gf_find.specs.Sets.{ReportsSet};
 ghost use Rattle.gf_find.specs.Scalars.{ReportsScalar};
 ghost use Rattle.gf_find.specs.Reported.{KnowsFiles, OpensNone, ReportsPart, ReportsWhole};
+ghost use Rattle.gf_find.specs.Searchers.{AreLeavesReturned, ArePassingsReturned, AreTimesReturned, IsSearchable};
 
-use crate::answer::text_of_words;
+use crate::answer::text_by;
 use crate::messages::line_of_refusal;
 use crate::writing::{write_line, write_whole_text};
+use eph_model::Ephemeris;
 use gf_edges::{Failed, Gate, Shelf, Sink};
-use spec_outcomes::{NOT_WRITTEN, OUT_OF_MEMORY, REPORTED, Refusal};
+use gf_search::{Crew, leaves, related, search_scalar};
+use spec_outcomes::{NOT_WRITTEN, OUT_OF_MEMORY, Query, REPORTED, Refusal};
+use spec_requests::ScalarAsk;
 use std::alloc::{AllocError, Global};
 use std::sync::Wait;
 use std::thread::Threads;
@@ -142,7 +149,41 @@ pub fn finder<R: Threads + Wait + Sync, S: Shelf, O: Sink, E: Sink, G: Gate>(
         → Keeps (O.bytes out.old) (O.bytes out.new) }
     ensures err_unchanged { result ≡ REPORTED → Keeps (E.bytes err.old) (E.bytes err.new) }
 {
-    match text_of_words(rt, alloc, words, shelf, gate) {
+    let find_leaves = |workers, max_leaves, wanted, ephemeris: &Ephemeris, query: &Query, span|
+        requires query { IsQuery query.now }
+        requires span { IsSearchable workers ephemeris.now span }
+        ensures { AreLeavesReturned max_leaves wanted query.now ephemeris.now span result }
+    {
+        let crew = Crew {
+            runtime: rt,
+            alloc,
+            workers,
+            max_leaves,
+            gate,
+        };
+        leaves(&crew, wanted, ephemeris, query, span)
+    };
+    let find_times = |workers, ephemeris: &Ephemeris, query: &Query, ref2, relation, span|
+        requires query { IsSetQuery query.now }
+        requires span { IsSearchable workers ephemeris.now span }
+        ensures { AreTimesReturned relation ref2 query.now ephemeris.now span result }
+    {
+        related(
+            rt, alloc, ephemeris, query, ref2, relation, span, workers, gate,
+        )
+    };
+    let find_passings = |ask: &ScalarAsk|
+        requires { IsScalarWithinLimits ask.now }
+        ensures { ArePassingsReturned ask.now result }
+    { search_scalar(rt, alloc, ask, gate) };
+    match text_by(
+        alloc,
+        words,
+        shelf,
+        &find_leaves,
+        &find_times,
+        &find_passings,
+    ) {
         Ok(text) => write_text(out, err, &text),
         Err(refusal) => write_refusal(alloc, err, &refusal),
     }

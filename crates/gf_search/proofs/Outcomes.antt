@@ -28,7 +28,7 @@ fault_is most q e span within r (inl none) = inl none
 fault_is most q e span within r (inr has) = inr (fault_stops most q e span within has.0 has.1 ∙ ap (λ (s : Refusal). Err s) (sym has.2))
 
 -- two facts of what is found are one
-both_ok : (P Q R : Vec Leaf Global → Type 0) → ((found : Vec Leaf Global) → P found → Q found → R found) → (r : Result (Vec Leaf Global) Refusal) → IfOk r P → IfOk r Q → IfOk r R
+pub both_ok : (P Q R : Vec Leaf Global → Type 0) → ((found : Vec Leaf Global) → P found → Q found → R found) → (r : Result (Vec Leaf Global) Refusal) → IfOk r P → IfOk r Q → IfOk r R
 both_ok P Q R join (Ok found) p q = join found p q
 both_ok P Q R join (Err stop) p q = tt
 
@@ -67,9 +67,6 @@ module _ (most : ℕ) (t : Rules) (s : Search) (n : Node) (same : t ≡ rules s)
   pub are_wanted : Covers n.a (leaves t n) n.b → IfOk r (λ found. found.items ≡ leaves t n) → IfOk r (λ found. leaf_count t n ≤ most)
       → (w : Wanted) → IfOk r (λ found. AreWanted w most s n found.items)
   are_wanted cover all few w = both_ok (λ found. found.items ≡ leaves t n) (λ found. leaf_count t n ≤ most) (λ found. AreWanted w most s n found.items) (wanted_by cover w) r all few
-
-  pub leaves_stopped_by : IfErr r (StopsAt most (leaf_count t n)) → IfErr r (StopsAt most (leaf_count (rules s) n))
-  leaves_stopped_by = subst (λ (u : Rules). IfErr r (StopsAt most (leaf_count u n))) same
 
 -- the tree of the judge is that of the query
 module _ (most : ℕ) (q : Query) (e : Ephemeris) (span : Span) (within : is_within span e ≡ true) (sound : fault_of e q.ask ≡ None) (s : Search) (n : Node) (is : s ≡ search q e) (whole : n ≡ root span.from span.upto) where

@@ -13,7 +13,7 @@ use Rattle.spec_stills.specs.Still.{IsStill}
 use Rattle.spec_stills.specs.Eager.{eager_rules}
 use Rattle.spec_stills.specs.ServedTree.{TellTheSame, served_rules}
 use Rattle.spec_stills.specs.Settled.{settled, settled_leaves}
-use Rattle.still_spans.specs.Order.{are_in_order, in_order_or_none}
+use Rattle.still_judge.specs.Order.{are_in_order, in_order_or_none}
 use Rattle.gf_search.specs.Wanted.{HaveSigns, HaveWindows}
 
 -- ---- still spans that stand in order

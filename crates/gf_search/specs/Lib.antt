@@ -1,3 +1,4 @@
 pub mod Coarser
 pub mod Wanted
 pub mod Reached
+pub mod Walks

@@ -9,7 +9,7 @@ ghost use Rattle.spec_stills.specs.Weights.{IsWeighed};
 use event_judge::{EventSearch, Judge};
 use halving::count_one;
 use spec_trees::Leaf;
-use still_spans::StillList;
+use still_judge::StillList;
 
 // Returns a number which the leaves of the search's tree below one leaf do not exceed: the leaf's weight, or, if that
 // is above `light`, the count that a judge's walk gives. None is returned if the number is above `limit`.

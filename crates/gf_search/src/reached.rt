@@ -5,25 +5,24 @@ ghost use Rattle.spec_kinds.specs.Kinds.{event_of};
 ghost use Rattle.spec_trees.specs.Tree.{Covers};
 ghost use Rattle.spec_sets.specs.Pairs.{AreOf};
 ghost use Rattle.spec_stills.specs.Still.{IsStill};
+ghost use Rattle.spec_output.specs.declared.limits.TheConstants.{MAX_LEAVES};
+ghost use Rattle.spec_outcomes.specs.Outcomes.{Stops};
 ghost use Rattle.spec_outcomes.specs.Queries.{is_within, search};
 ghost use Rattle.spec_outcomes.specs.Sets.{IsSetQuery, signs_by, signs_in};
+ghost use Rattle.gf_search.specs.declared.wanted.Wanted.TheVariants.{Signs};
 ghost use Rattle.gf_search.specs.Reached.{AreReached, HasTooMany};
+ghost use Rattle.gf_search.specs.Walks.{IsSearched};
+ghost use Rattle.gf_search.specs.Wanted.{IsWanted};
 
 use crate::found::Found;
-use crate::search::leaves_and_stills;
 use crate::span_task::SpanTask;
 use crate::still_signs::StillSigns;
-use crate::{Crew, Wanted};
 use eph_model::Ephemeris;
 use event_kinds::Event;
-use gf_edges::Gate;
 use gf_query::states;
 use gf_sets::{Pair, times_at_least};
 use spec_outcomes::{Query, Refusal, Span};
-use spec_output::MAX_LEAVES;
 use std::alloc::{AllocError, Global};
-use std::sync::Wait;
-use std::thread::Threads;
 
 // Returns the times of a span at which the function of a query is at least 0, from leaves that show the signs of the
 // search for the query's event, and the search's still spans. The header is read for what the call ensures. The only
@@ -59,14 +58,39 @@ fn times_reached_by_leaves(
     times_at_least(alloc, &signs, span.from, &found.leaves)
 }
 
+// Returns what a search of a task's span for the events of a query finds: leaves that show its signs, and its still
+// spans. Errors: the fault of the event; `TooManyLeaves` if the search has more than may be found; `Memory`.
+fn found_with_signs<F: Fn(&Query) -> Result<Found, Refusal>>(
+    find: &F,
+    task: &SpanTask,
+    query: &Query,
+) -> Result<Found, Refusal>
+    requires callable { (query : _) → IsSetQuery query.now → F.pre find.now query }
+    requires finds { (query r : _) → F.post find.now query r
+        → IsSearched Signs MAX_LEAVES query.now task.now.ephemeris.now task.now.span r }
+    requires query { IsSetQuery query.now }
+    ensures found { IfOk result (λ found. IsWanted Signs MAX_LEAVES query.now
+        task.now.ephemeris.now task.now.span found.leaves.items) }
+    ensures still { IfOk result (λ found.
+        All (IsStill (search query.now task.now.ephemeris.now)) found.stills) }
+    ensures stopped { IfErr result (λ refusal.
+        Stops MAX_LEAVES query.now task.now.ephemeris.now task.now.span refusal) }
+{
+    find(query)
+}
+
 /// Searches a task's span for the query's event, which has no fault, and returns the times at which the query's
 /// function is at least 0: the sure times and the possible ones. Errors: `TooManyLeaves` if the search has more than
 /// may be found, or `Memory`.
-pub(crate) fn reached_times<R: Threads + Wait + Sync, G: Gate>(
-    task: &SpanTask<R, G>,
+pub(crate) fn reached_times<F: Fn(&Query) -> Result<Found, Refusal>>(
+    find: &F,
+    task: &SpanTask,
     query: &Query,
     event: &Event,
 ) -> Result<Pair, Refusal>
+    requires callable { (query : _) → IsSetQuery query.now → F.pre find.now query }
+    requires finds { (query r : _) → F.post find.now query r
+        → IsSearched Signs MAX_LEAVES query.now task.now.ephemeris.now task.now.span r }
     requires query { IsSetQuery query.now }
     requires sound { fault_of task.now.ephemeris.now query.now.ask ≡ None }
     requires event { event.now ≡ event_of query.now.ask }
@@ -75,14 +99,7 @@ pub(crate) fn reached_times<R: Threads + Wait + Sync, G: Gate>(
     ensures stopped { IfErr result (λ refusal.
         HasTooMany (search query.now task.now.ephemeris.now) task.now.span refusal) }
 {
-    let crew = Crew {
-        runtime: task.runtime,
-        alloc: task.alloc,
-        workers: task.workers,
-        max_leaves: MAX_LEAVES,
-        gate: task.gate,
-    };
-    let found = leaves_and_stills(&crew, Wanted::Signs, task.ephemeris, query, task.span)?;
+    let found = found_with_signs(find, task, query)?;
     let pair = times_reached_by_leaves(
         task.alloc,
         task.ephemeris,

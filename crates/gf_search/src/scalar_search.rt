@@ -3,6 +3,7 @@ ghost use Rattle.std.specs.Prelude.{◌≡◌, ◌⊎◌, ◌<ℤ◌, Err, IfErr
 ghost use Rattle.spec_requests.specs.Limits.{IsScalarWithinLimits};
 ghost use Rattle.spec_outcomes.specs.Scalars.{AreScalarLeaves, found_scalar, quadratic_of, scalar_root, scalar_span, whole_scalar_span};
 
+use crate::alone::leaves_by_one;
 use gf_edges::Gate;
 use gf_uds::{Quad, Scalar, ScalarJudge, find_scalar, law_holds};
 use ordered_join::leaves;
@@ -63,29 +64,6 @@ fn outside_refusal(ask: &ScalarAsk) -> Refusal
     }
 }
 
-// Returns the leaves of the search of a polynomial over a span that holds a time, in order of time. Errors:
-// `TooManyLeaves` or `Memory`.
-fn search_span<R: Threads + Wait + Sync, G: Gate>(
-    rt: &R,
-    alloc: Global,
-    ask: &ScalarAsk,
-    gate: &G,
-) -> Result<Vec<Leaf>, Refusal>
-    requires limits { IsScalarWithinLimits ask.now }
-    requires ordered { ask.now.from <ℤ ask.now.to }
-    ensures found { IfOk result (λ found. AreScalarLeaves ask.now found.items) }
-    ensures stopped { IfErr result (λ refusal. (refusal ≡ Refusal.Memory)
-        ⊎ (found_scalar ask.now ≡ Err refusal)) }
-{
-    let judge = scalar_judge(ask);
-    let root = scalar_root(ask);
-    match find_scalar(rt, alloc, &judge, root, ask.workers, MAX_LEAVES, gate) {
-        Ok(book) => Ok(leaves(alloc, &book)?),
-        Err(PoolError::TooMany) => Err(Refusal::TooManyLeaves { most: MAX_LEAVES }),
-        Err(PoolError::Memory) => Err(Refusal::Memory),
-    }
-}
-
 /// Searches for the times at which the polynomial that is asked for passes 0 in a wanted direction, by workers at
 /// once, and returns the leaves of the search. They follow one another over the span in order of time, and their
 /// windows are those of the times sought. Times are whole numbers. Errors: `Outside` if the span holds no time;
@@ -101,8 +79,43 @@ pub fn search_scalar<R: Threads + Wait + Sync, G: Gate>(
     ensures stopped { IfErr result (λ refusal. (refusal ≡ Refusal.Memory)
         ⊎ (found_scalar ask.now ≡ Err refusal)) }
 {
+    if ask.from >= ask.to {
+        return Err(outside_refusal(ask));
+    }
+    let judge = scalar_judge(ask);
+    let root = scalar_root(ask);
+    match find_scalar(rt, alloc, &judge, root, ask.workers, MAX_LEAVES, gate) {
+        Ok(book) => Ok(leaves(alloc, &book)?),
+        Err(PoolError::TooMany) => Err(Refusal::TooManyLeaves { most: MAX_LEAVES }),
+        Err(PoolError::Memory) => Err(Refusal::Memory),
+    }
+}
+
+// Returns the leaves of the search of a polynomial over a span that holds a time, in order of time, found in the
+// calling thread. Errors: `TooManyLeaves` or `Memory`.
+fn search_span_alone(alloc: Global, ask: &ScalarAsk) -> Result<Vec<Leaf>, Refusal>
+    requires limits { IsScalarWithinLimits ask.now }
+    requires ordered { ask.now.from <ℤ ask.now.to }
+    ensures found { IfOk result (λ found. AreScalarLeaves ask.now found.items) }
+    ensures stopped { IfErr result (λ refusal. (refusal ≡ Refusal.Memory)
+        ⊎ (found_scalar ask.now ≡ Err refusal)) }
+{
+    let judge = scalar_judge(ask);
+    let root = scalar_root(ask);
+    law_holds(&judge.scalar.law);
+    leaves_by_one(alloc, MAX_LEAVES, &judge, root)
+}
+
+/// Searches as `search_scalar` does, in the calling thread: nothing waits, and no gate is passed. Errors are those of
+/// `search_scalar`.
+pub fn search_scalar_alone(alloc: Global, ask: &ScalarAsk) -> Result<Vec<Leaf>, Refusal>
+    requires { IsScalarWithinLimits ask.now }
+    ensures found { IfOk result (λ found. AreScalarLeaves ask.now found.items) }
+    ensures stopped { IfErr result (λ refusal. (refusal ≡ Refusal.Memory)
+        ⊎ (found_scalar ask.now ≡ Err refusal)) }
+{
     if ask.from < ask.to {
-        search_span(rt, alloc, ask, gate)
+        search_span_alone(alloc, ask)
     } else {
         Err(outside_refusal(ask))
     }

@@ -1,11 +1,11 @@
 // The signs of a search's function at single times, as its still spans tell them.
 ghost use Rattle.spec_bodies.specs.Views.{state_enclosure};
 ghost use Rattle.spec_sets.specs.Points.{point_of};
-ghost use Rattle.still_spans.specs.Signs.{TellSigns};
+ghost use Rattle.still_judge.specs.Signs.{TellSigns};
 
 use body_states::BodyStates;
 use event_expr::Formula;
-use still_spans::StillList;
+use still_judge::StillList;
 
 /// Tells the signs of a formula by still spans, and by states at times that no span holds.
 #[derive(Drop)]

@@ -1,21 +1,8 @@
 mod FollowingShares
-mod Begun
-mod Cleared
-mod Manners
-mod Changing
-mod Cutting
-mod Descent
-mod EndSigns
-mod Certifying
-mod Eager
-mod FollowingNodes
-mod Served
-mod TimesHeld
 mod Doubled
 mod SpanBounds
 mod Margins
 mod Halving
-mod Fewest
 mod FollowingSpans
 mod BetweenSpans
 pub mod Quieted

@@ -12,6 +12,8 @@ from ..public import public
 
 # The program of this machine, as it is shipped, and as an installed package has it.
 PROGRAM = f"finder-{platform.machine()}-linux"
+# The library of this machine, which is shipped for x86-64 alone.
+LIBRARY = f"libfinder-{platform.machine()}-linux.so"
 # As many bytes of a script tell what runs it: pip names a long path of an interpreter on its second line.
 BEGIN = 400
 

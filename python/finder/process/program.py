@@ -26,6 +26,7 @@ from .messages import shown, shown_lines
 LOG = logging.getLogger("finder")
 # Seconds after which a wait begins anew: an interrupt that comes just before a wait begins is seen only when it ends.
 WAIT = 0.2
+OVER = "finder: the call is over"
 NUMBERED = re.compile(r"(?:^|: )([0-9]+) ([A-Z][A-Za-z]*)(?: (\S+))?$")
 FAULT = re.compile(r"finder: file (.*) line ([0-9]+): [0-9]+ [A-Za-z]+(?: \S+)?", re.DOTALL)
 
@@ -280,8 +281,9 @@ class Runs:
     def _start(self, words: Sequence[Union[str, bytes]], begun: _Begun) -> None:
         """Starts the command, unless the call is over, and adds it to those that have begun."""
         with self._lock:
-            if self._stopped or begun.is_over:
-                raise Interrupted(-signal.SIGKILL, "finder: the call is over")
+            if begun.is_over:
+                raise Interrupted(-signal.SIGKILL, OVER)
+            self.refuse_stopped()
             process = Guarded(self._program, words)
             self._live.add(process)
             begun.processes.append(process)
@@ -302,7 +304,12 @@ class Runs:
                 self._finish(process)
         told = shown(shlex.join(map(os.fsdecode, words)))
         LOG.info("%s: status %d, %.3f seconds", told, ended.status, time.monotonic() - began)
-        return _answer(ended, [os.fsdecode(word) for word in words])
+        return answer_of(ended, [os.fsdecode(word) for word in words])
+
+    def refuse_stopped(self) -> None:
+        """Refuses a run once the call is over."""
+        if self._stopped:
+            raise Interrupted(-signal.SIGKILL, OVER)
 
     def _outcome(self, process: Guarded, began: float, budget: Optional[float]) -> Outcome:
         """How the command ended, once it has."""
@@ -341,7 +348,7 @@ def _seconds_of_clock(timeout: float) -> None:
         raise ValueError("timeout has more seconds than the clock holds: leave it out, to wait without end") from None
 
 
-def _answer(ended: Outcome, words: Sequence[str]) -> str:
+def answer_of(ended: Outcome, words: Sequence[str]) -> str:
     """What the command printed, or the exception of its status."""
     if ended.status:
         line = os.fsdecode(ended.err).removesuffix("\n")
@@ -361,6 +368,13 @@ def _is_of_command(line: str, status: int) -> bool:
     return status not in OF_STATUS or not line or any(each.startswith("finder: ") for each in line.split("\n"))
 
 
-def runs_of(program: Program, timeout: Optional[float]) -> Runs:
+def runs_of(program: Program, timeout: Optional[float], in_process: bool = False) -> Runs:
     """Those of a call that takes a program and a timeout; the program may be those of the call around it."""
-    return program if isinstance(program, Runs) else Runs(program, timeout)
+    if isinstance(program, Runs):
+        return program
+    if not in_process:
+        return Runs(program, timeout)
+    # (it takes part of this module)
+    from .library import InProcess
+
+    return InProcess(program, timeout)

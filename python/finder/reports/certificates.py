@@ -181,6 +181,7 @@ def verify(
     request: Optional[str] = None,
     program: Program = None,
     timeout: Optional[float] = None,
+    in_process: bool = False,
 ) -> Verified:
     """The windows of a certificate, or of the file that has one, whose pieces are all judged again by the files.
     Whoever made it is not trusted: `CertificateRefused` names its first line that is not so.
@@ -201,7 +202,7 @@ def verify(
         name = os.path.join(folder, "certificate")
         Path(name).write_bytes(made.text.encode("ascii"))
         words = [f"--{option}={value}" for option, value in request_options(made.report).items()]
-        said = runs_of(program, timeout).run(["verify", *words, f"--cert={name}", "--", *some_names(files)])
+        said = runs_of(program, timeout, in_process).run(["verify", *words, f"--cert={name}", "--", *some_names(files)])
     text, found, count = said.rpartition("VERIFIED leaves ")
     windows = Windows(spans.read_report(text), names_of(files))
     if not found or count != f"{len(made)}\n" or f"{windows.request} span {windows.report.span}" != made.request:

@@ -142,7 +142,7 @@ def _by_angle(
     cosines = dict.fromkeys(cosine_of_degrees(degrees, up=up) for up in (relation == "atleast", relation == "less"))
     kept = held(files)
     # (`timeout` is of both searches)
-    options["program"] = runs_of(options.get("program"), options.get("timeout"))
+    options["program"] = runs_of(options.get("program"), options.get("timeout"), options.get("in_process", False))
     sure, *possible = (times(kept, *bodies, relation=relation, ref=ref, **options) for ref in cosines)
     return sure.up_to(possible[0]) if possible else sure
 

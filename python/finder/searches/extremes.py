@@ -153,7 +153,8 @@ def _extreme(
     asked: dict[str, Any] = {"target": target, "second": second, **options}
     asked.pop("timeout", None)
     # (`timeout` is of all three searches)
-    words: dict[str, Any] = {**asked, "program": runs_of(options.get("program"), options.get("timeout"))}
+    runs = runs_of(options.get("program"), options.get("timeout"), options.get("in_process", False))
+    words: dict[str, Any] = {**asked, "program": runs}
     windows, numbers = _candidates(find(kept, "apsis" if second is None else "sepext", **words), kept)
     best = int(np.nanargmax(way * numbers))
     value = Fraction(float(numbers[best]))

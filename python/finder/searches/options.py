@@ -46,6 +46,7 @@ class SetOptions(TypedDict, total=False):
     progress: Optional[Progress]
     program: Program
     timeout: Optional[float]
+    in_process: bool
 
 
 class Options(SetOptions, total=False):
@@ -87,6 +88,7 @@ DEFAULTS: dict[str, Any] = {
     "progress": None,
     "program": None,
     "timeout": None,
+    "in_process": False,
 }
 MEANING = {
     "start, end": "times of TDB: events after `start` and up to `end` are looked for, the times of a set from `start` "
@@ -110,6 +112,8 @@ MEANING = {
     "program": "the command; else $FINDER, the one that was installed with the package, that of a clone, or `finder` "
     "on the path",
     "timeout": "seconds after which the search is ended, and `TimedOut` raised",
+    "in_process": "`True`: the library of the command searches, in this process and thread, and `workers` change nothing; "
+    "on x86-64 alone, and without `program` and `timeout`",
 }
 
 

@@ -68,6 +68,7 @@ def over_files(
     progress: Optional[Progress] = None,
     program: Program = None,
     timeout: Optional[float] = None,
+    in_process: bool = False,
     **options: Any,
 ) -> Found:
     """The windows of a search, the set of `times`, `near` and others, or the `certificate`, over files in order of
@@ -105,7 +106,7 @@ def over_files(
         start, end = wanted["start"], wanted["end"]
     low = None if start is None else ticks_of_time(start, tick, up=False) * (1_000 // tick)
     high = None if end is None else ticks_of_time(end, tick, up=True) * (1_000 // tick)
-    with _Calls(executor, jobs, program, timeout) as calls:
+    with _Calls(executor, jobs, program, timeout, in_process) as calls:
         read = calls.results(check, [([*first, name],) for name in names])
         plan = spans.spans_of_files(names, read, low, high)
         if progress is not None and len(plan) < len(names):
@@ -123,13 +124,18 @@ class _Calls:
     """The calls that one call makes: by threads of its own, whose processes end with it, or by an executor."""
 
     def __init__(
-        self, executor: Optional[concurrent.futures.Executor], jobs: int, program: Program, timeout: Optional[float]
+        self,
+        executor: Optional[concurrent.futures.Executor],
+        jobs: int,
+        program: Program,
+        timeout: Optional[float],
+        in_process: bool,
     ) -> None:
-        self._runs = runs_of(program, timeout) if executor is None else None
+        self._runs = runs_of(program, timeout, in_process) if executor is None else None
         self._pool = executor or concurrent.futures.ThreadPoolExecutor(count("jobs", jobs))
         self._options: dict[str, Any] = {"program": self._runs}
         if executor is not None:
-            self._options = {"program": _name_of(program), "timeout": timeout}
+            self._options = {"program": _name_of(program), "timeout": timeout, "in_process": in_process}
         self._futures: list[concurrent.futures.Future[Any]] = []
 
     def __enter__(self) -> _Calls:

@@ -139,7 +139,7 @@ def refuse_words(options: dict[str, Any], kinds: tuple[str, ...]) -> None:
 
 def answer(command: str, options: dict[str, Any], files: Files, wanted: dict[str, Any], form: type[Any]) -> Any:
     """The report of a command for options and files, of one run of the program, or joined of those of parts."""
-    runs = runs_of(wanted.get("program"), wanted.get("timeout"))
+    runs = runs_of(wanted.get("program"), wanted.get("timeout"), wanted.get("in_process", False))
     parts = wanted.get("parts", DEFAULTS["parts"])
     texts = reports_of(command, options, some_names(files), runs, parts, wanted.get("progress"))
     found = [part for text in texts for part in read_parts(text)]
@@ -164,7 +164,9 @@ def is_answer(report: Part, options: dict[str, Any]) -> bool:
 
 
 @public
-def check(files: Files, *, program: Program = None, timeout: Optional[float] = None) -> Summary:
+def check(
+    files: Files, *, program: Program = None, timeout: Optional[float] = None, in_process: bool = False
+) -> Summary:
     """The span, the blocks and the columns of files, which are read by all rules of their format.
 
     >>> import finder
@@ -175,4 +177,4 @@ def check(files: Files, *, program: Program = None, timeout: Optional[float] = N
     `start`, `end` and `block` are seconds, `timeout` too; a column has its coefficients and granules. `FileFault` names
     the line of a file that breaks a rule.
     """
-    return read_summary(runs_of(program, timeout).run(["check", "--", *some_names(files)]))
+    return read_summary(runs_of(program, timeout, in_process).run(["check", "--", *some_names(files)]))

@@ -17,28 +17,27 @@ use Rattle.gf_find.proofs.FoundLeaves.{memory_also}
 use Rattle.gf_find.proofs.Reporting.{generation_is, generation_stops, some_blocks}
 use Rattle.gf_find.proofs.generated.lines_of_ephemeris.Goals as goal
 
-pub leaves-requires-clause-block : goal.leaves-requires-clause-block
-leaves-requires-clause-block g c κs lives =
-    subst (λ (e : Ephemeris). 0 < e.blocks) (sym c.requires.same) (some_blocks _ _ c.requires.some)
-
-pub leaves-requires-clause-query : goal.leaves-requires-clause-query
-leaves-requires-clause-query g c κs lives = subst IsQuery (sym c.conjunctions-query.ensures) conjunctions_are
-
-pub leaves-requires-clause-within : goal.leaves-requires-clause-within
-leaves-requires-clause-within g c κs lives =
+pub leaves-requires : goal.leaves-requires
+leaves-requires g c =
     let block = subst (λ (e : Ephemeris). 0 < e.blocks) (sym c.requires.same) (some_blocks _ _ c.requires.some) in
-    subst (λ (span : Span). is_within span c.args.ephemeris.now ≡ true) (sym c.whole_span-span.ensures.span) (whole_within _ c.whole_span-span.ensures.checked block)
+    c.requires.takes_searches _ _ _ _ _ _ (subst IsQuery (sym c.conjunctions-query.ensures) conjunctions_are) (record {
+      some = c.requires.some_workers;
+      few = c.requires.workers;
+      block = block;
+      within = subst (λ (span : Span). is_within span c.args.ephemeris.now ≡ true) (sym c.whole_span-span.ensures.span) (whole_within _ c.whole_span-span.ensures.checked block);
+    })
 
 pub lines_of_leaves-requires : goal.lines_of_leaves-requires
 lines_of_leaves-requires g c =
     let span = c.whole_span-span.result in
-    let is = c.in-Ok.ensures.found in
+    let is = (c.requires.returns_leaves _ _ _ _ _ _ _ c.in-Ok.ensures).found in
     subst (λ (ls : List Leaf). Covers span.from ls span.upto) (sym c.deref.ensures.value) is.follow
 
 pub returns-in-Err-clause-stopped : goal.returns-in-Err-clause-stopped
 returns-in-Err-clause-stopped g c =
     let block = subst (λ (e : Ephemeris). 0 < e.blocks) (sym c.requires.same) (some_blocks _ _ c.requires.some) in
-    generation_stops _ _ _ _ _ _ c.requires.same c.conjunctions-query.ensures c.whole_span-span.ensures.span c.requires.bytes c.whole_span-span.ensures.checked block _ c.in-Err.ensures.stopped
+    generation_stops _ _ _ _ _ _ c.requires.same c.conjunctions-query.ensures c.whole_span-span.ensures.span c.requires.bytes c.whole_span-span.ensures.checked block _
+    (c.requires.returns_leaves _ _ _ _ _ _ _ c.in-Err.ensures).stopped
 
 pub returns-in-Ok-clause-stopped : goal.returns-in-Ok-clause-stopped
 returns-in-Ok-clause-stopped g c = memory_also (λ refusal. generation_of c.args.blocks c.args.seed ≡ Err refusal) c.lines_of_leaves.result c.lines_of_leaves.ensures.memory
@@ -47,5 +46,5 @@ pub returns-in-Ok-clause-lines : goal.returns-in-Ok-clause-lines
 returns-in-Ok-clause-lines g c =
     ok_also {X = Vec ℕ Global} {E = Refusal} (λ text. text.items ≡ generation c.args.blocks c.args.seed c.args.bytes (windows c.deref.result.now))
     (λ text. IsGeneration c.args.blocks c.args.seed text.items) c.lines_of_leaves.result
-    (λ text printed. generation_is _ _ _ _ _ _ c.requires.same c.conjunctions-query.ensures c.whole_span-span.ensures.span c.requires.bytes _ text.items c.in-Ok.ensures.found
+    (λ text printed. generation_is _ _ _ _ _ _ c.requires.same c.conjunctions-query.ensures c.whole_span-span.ensures.span c.requires.bytes _ text.items (c.requires.returns_leaves _ _ _ _ _ _ _ c.in-Ok.ensures).found
     (printed ∙ ap (λ (ls : List Leaf). generation c.args.blocks c.args.seed c.args.bytes (windows ls)) c.deref.ensures.value)) c.lines_of_leaves.ensures.text

@@ -14,7 +14,7 @@ pub in_ticks-counted-requires-clause-seconds : goal.in_ticks-counted-requires-cl
 in_ticks-counted-requires-clause-seconds g c = in_seconds _ _ _ c.in_ok-ephemeris.ensures.accepted
 
 pub search_ephemeris-requires-clause-block : goal.search_ephemeris-requires-clause-block
-search_ephemeris-requires-clause-block g c κs lives = rw c.in_ticks-counted.ensures (has_block _ _ _ c.in_ok-ephemeris.ensures.accepted)
+search_ephemeris-requires-clause-block g c = rw c.in_ticks-counted.ensures (has_block _ _ _ c.in_ok-ephemeris.ensures.accepted)
 
 pub returns-clause-found : goal.returns-clause-found
 returns-clause-found g c =

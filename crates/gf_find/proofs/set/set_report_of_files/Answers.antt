@@ -8,14 +8,14 @@ pub in_ticks-counted-requires-clause-seconds : goal.in_ticks-counted-requires-cl
 in_ticks-counted-requires-clause-seconds g c = in_seconds _ _ _ c.in_ok-ephemeris.ensures.accepted
 
 pub set_report_of_ephemeris-requires-clause-block : goal.set_report_of_ephemeris-requires-clause-block
-set_report_of_ephemeris-requires-clause-block g c κs lives = rw c.in_ticks-counted.ensures (has_block _ _ _ c.in_ok-ephemeris.ensures.accepted)
+set_report_of_ephemeris-requires-clause-block g c = rw c.in_ticks-counted.ensures (has_block _ _ _ c.in_ok-ephemeris.ensures.accepted)
 
 pub set_report_of_ephemeris-requires-clause-start : goal.set_report_of_ephemeris-requires-clause-start
-set_report_of_ephemeris-requires-clause-start g c κs lives =
+set_report_of_ephemeris-requires-clause-start g c =
     rw c.in_ticks-counted.ensures (start_counted c.args.find.now.tick _ (in_seconds _ _ _ c.in_ok-ephemeris.ensures.accepted))
 
 pub set_report_of_ephemeris-requires-clause-end : goal.set_report_of_ephemeris-requires-clause-end
-set_report_of_ephemeris-requires-clause-end g c κs lives =
+set_report_of_ephemeris-requires-clause-end g c =
     let held = c.in_ok-ephemeris.ensures.accepted in
     rw c.in_ticks-counted.ensures (end_counted c.args.find.now.tick _ (is_checked _ _ _ held) (in_seconds _ _ _ held))
 

@@ -5,7 +5,7 @@ use mir.Val.{SFits}
 use Rattle.spec_intervals.specs.declared.signs.Sign.{Sign}
 use Rattle.spec_bodies.specs.Views.{Fits, View, state_enclosure}
 use Rattle.spec_searches.specs.Event.{Event}
-use Rattle.still_spans.specs.Signs.{TellSigns}
+use Rattle.still_judge.specs.Signs.{TellSigns}
 use Rattle.spec_sets.specs.Pairs.{AreOf}
 use Rattle.spec_sets.specs.Points.{point_of}
 use Rattle.spec_sets.specs.Signs.{Follow, end_from, sign_of_leaves}

@@ -1,0 +1,5 @@
+use Rattle.gf_search.proofs.Windows.{kept_still}
+use Rattle.gf_search.proofs.alone.still_spans_alone.Goals as goal
+
+pub returns-in-Ok-clause-still : goal.returns-in-Ok-clause-still
+returns-in-Ok-clause-still c = kept_still c.args.search.now c.in-Ok.spans.items c.new.result c.new.ensures c.in-Ok.ensures

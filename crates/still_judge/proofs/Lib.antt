@@ -1,0 +1,13 @@
+mod Begun
+mod Cleared
+mod Manners
+mod Changing
+mod Cutting
+mod Descent
+mod EndSigns
+mod Certifying
+mod Eager
+mod FollowingNodes
+mod Served
+mod TimesHeld
+mod Fewest

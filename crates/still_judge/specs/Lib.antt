@@ -1,0 +1,6 @@
+pub mod Order
+pub mod Stands
+pub mod Below
+pub mod EndSigns
+pub mod Manners
+pub mod Signs

@@ -1,4 +1,0 @@
-use Rattle.still_spans.proofs.serving.+fewest_halvings.Given as goal
-
-abbrev pub decreases-fewest_halvings : goal.decreases-fewest_halvings
-decreases-fewest_halvings l = l.most

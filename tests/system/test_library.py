@@ -2,7 +2,7 @@
 statuses; malformed calls; and what is written of a text for which there is no room.
 
 The gate runs a tenth of the cases through C and through Python, and a sample one in a hundred; FINDER_LIBRARY=whole runs
-all. It needs an x86-64 machine and a compiler of C."""
+all. It needs an x86-64 machine and a compiler of C, and for Python numpy."""
 
 from __future__ import annotations
 
@@ -15,8 +15,9 @@ import sys
 import tempfile
 import unittest
 from dataclasses import replace
+from importlib.util import find_spec
 from pathlib import Path
-from typing import Callable, Iterator, Sequence
+from typing import Iterator
 
 from tests.reference.random_runs import SORTS, made_run
 from tests.support.case_runs import Answer, CaseRunner, differences, needs_devices, write_files
@@ -76,44 +77,29 @@ def stored_cases() -> Iterator[Case]:
     yield from every[::SHARE]
 
 
-def python_answer(words: Sequence[bytes], case: Case) -> Answer:
-    """What the call of the package in this process returns, over files that are laid out."""
-    from finder.process.library import outcome_of
-
-    ended = outcome_of(words, laid_out([], case.files)[1])
-    return Answer(ended.status, ended.out, ended.err)
-
-
-class Library(unittest.TestCase):
-    """Calls through a process in C, and in this process."""
+class Runs(unittest.TestCase):
+    """Stored cases, and searches made at random, through calls of one kind."""
 
     place: Path
-    caller: Caller
 
     @classmethod
     def setUpClass(cls) -> None:
         place = tempfile.TemporaryDirectory(prefix="finder-library-")
         cls.addClassCleanup(place.cleanup)
         cls.place = Path(place.name)
-        cls.caller = Caller(build_caller(cls.place))
 
-    @classmethod
-    def tearDownClass(cls) -> None:
-        if cls.caller.close() != 0:
-            raise AssertionError("a call wrote outside of its room")
+    def answer(self, case: Case) -> Answer:
+        """The answer of a call."""
+        raise NotImplementedError
 
     def compare(self, case: Case) -> None:
-        """Compares a case with its answer, through C and through Python."""
-        calls: dict[str, Callable[[], Answer]] = {
-            "C": lambda: self.caller.answer(case.words, case.files),
-            "Python": lambda: python_answer(case.words, case),
-        }
-        for name, call in calls.items():
-            found = differences(case, call())
-            if found:
-                self.fail("\n".join([f"{case.name} differs through {name}", *found]))
+        """Compares a case with its answer."""
+        found = differences(case, self.answer(case))
+        if found:
+            self.fail("\n".join([f"{case.name} differs", *found]))
 
-    def test_stored_cases(self) -> None:
+    def check_stored_cases(self) -> None:
+        """Runs a share of the stored cases."""
         count = 0
         for case in stored_cases():
             with self.subTest(case.name):
@@ -121,7 +107,8 @@ class Library(unittest.TestCase):
             count += 1
         self.assertGreaterEqual(count, 1_700 // SHARE)
 
-    def test_random_runs(self) -> None:
+    def check_random_runs(self) -> None:
+        """Runs searches made at random, which the program answers too."""
         count = 0
         for number in range(1, SEARCHES + 1):
             run = made_run(SEED, number, COMMANDS)
@@ -139,6 +126,53 @@ class Library(unittest.TestCase):
             write_files(case, Path(folder))
             answer = runner.answer(case.words, Path(folder), {})
         return replace(case, status=answer.status, out=answer.out, err=answer.err)
+
+
+class RunsThroughC(Runs):
+    """Calls of a process in C."""
+
+    caller: Caller
+
+    @classmethod
+    def setUpClass(cls) -> None:
+        super().setUpClass()
+        cls.caller = Caller(build_caller(cls.place))
+
+    @classmethod
+    def tearDownClass(cls) -> None:
+        if cls.caller.close() != 0:
+            raise AssertionError("a call wrote outside of its room")
+
+    def answer(self, case: Case) -> Answer:
+        return self.caller.answer(case.words, case.files)
+
+    def test_stored_cases(self) -> None:
+        self.check_stored_cases()
+
+    def test_random_runs(self) -> None:
+        self.check_random_runs()
+
+
+class RunsThroughPython(Runs):
+    """Calls of the package in this process."""
+
+    @classmethod
+    def setUpClass(cls) -> None:
+        if not find_spec("numpy"):
+            raise unittest.SkipTest("no python3 here has numpy")
+        super().setUpClass()
+
+    def answer(self, case: Case) -> Answer:
+        from finder.process.library import outcome_of
+
+        ended = outcome_of(case.words, laid_out([], case.files)[1])
+        return Answer(ended.status, ended.out, ended.err)
+
+    def test_stored_cases(self) -> None:
+        self.check_stored_cases()
+
+    def test_random_runs(self) -> None:
+        self.check_random_runs()
 
 
 class Layout(unittest.TestCase):

@@ -21,10 +21,11 @@ use Rattle.spec_requests.specs.Requests.{ask_of, of_search, ref2_text, request_b
 use Rattle.spec_requests.specs.declared.request.FindAsk.{FindAsk}
 use Rattle.spec_requests.specs.declared.tables.CommandName.{CommandName}
 use Rattle.spec_requests.specs.declared.tables.CommandName.TheVariants as command
+use Rattle.option_values.specs.Readings.{values_of}
 use Rattle.gf_words.specs.declared.searches.SearchOptions.{SearchOptions}
 use Rattle.gf_words.specs.Answers.{Answers}
 use Rattle.gf_words.specs.Parts.{search_by_options, search_with_texts}
-use Rattle.gf_words.specs.Readings.{IsReading, file_names_of, values_of}
+use Rattle.gf_words.specs.Readings.{IsReading, file_names_of}
 
 pub answers_along : (x y result : Result Request WordFault) → x ≡ y → Answers x result → Answers y result
 answers_along x y result same answers = subst (λ z. Answers z result) same answers

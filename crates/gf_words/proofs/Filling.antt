@@ -21,12 +21,13 @@ use Rattle.spec_requests.specs.declared.limits.TheConstants.{DEFAULT_TICK}
 use Rattle.spec_requests.specs.Names.{Text, axis_of, cut_of, dir_of, frame_of, kind_of, layout_of, observer_of, relation_of, target_of, tick_of_word}
 use Rattle.spec_requests.specs.Options.{Values, bad_in_scalar, bad_in_set, bad_option, blocks_of, decimal_of, depth_of, has_relation, instant_of, is_bad, is_bad_in_scalar, is_bad_in_set, is_misread, passing, quad_of, relation_for, scalar_time_of, seed_of, set_kind_of, tick_in, use_of, use_of_ref2, width_of, workers_of}
 use Rattle.spec_requests.specs.Requests.{ask_of, bad_word, checked_scalar, checked_search, checked_text, nought, nought_quad, scalar_by, scalar_of, search_by, search_of, search_of_kind, search_of_target, set_search_by, text_by, text_of, use_in_text, value_or}
-use Rattle.gf_words.specs.declared.polynomials.Polynomial.{Polynomial}
+use Rattle.option_values.specs.declared.polynomials.Polynomial.{Polynomial}
+use Rattle.option_values.specs.Polynomials.{as_polynomial, polynomial_of}
+use Rattle.option_values.specs.Parts.{needed, pair, part, required, used}
 use Rattle.gf_words.specs.declared.scalars.ScalarOptions.{ScalarOptions}
 use Rattle.gf_words.specs.declared.searches.SearchOptions.{SearchOptions}
 use Rattle.gf_words.specs.declared.sets.References.{References}
-use Rattle.gf_words.specs.Polynomials.{as_polynomial, polynomial_of}
-use Rattle.gf_words.specs.Parts.{made, needed, pair, part, required, used, ask_of_parts, axes_by, axes_of, axes_read, bodies_by, bodies_of, bodies_read, ends_by, ends_of, ends_read, limits_by, limits_of, limits_read, numbers_by, numbers_of, numbers_read, references_after, references_by, references_of, references_read, scalar_by_options, scalar_of_parts, scalar_read, search_by_options, search_of_parts, search_read, text_of_parts, text_read, turns_read}
+use Rattle.gf_words.specs.Parts.{made, ask_of_parts, axes_by, axes_of, axes_read, bodies_by, bodies_of, bodies_read, ends_by, ends_of, ends_read, limits_by, limits_of, limits_read, numbers_by, numbers_of, numbers_read, references_after, references_by, references_of, references_read, scalar_by_options, scalar_of_parts, scalar_read, search_by_options, search_of_parts, search_read, text_of_parts, text_read, turns_read}
 
 -- what is read, or the first option that is bad, where there is one
 abbrev answer : {R : Type 0} → Option Named → R → Result R Named

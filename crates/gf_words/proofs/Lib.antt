@@ -1,5 +1,3 @@
-mod Parsing
-mod Numbers
 mod Faults
 mod Rules
 mod Pairs

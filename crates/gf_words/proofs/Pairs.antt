@@ -1,7 +1,8 @@
 -- Parts that are read two by two: where one is bad, the first that is bad is what all come to.
 use Rattle.std.proofs.Common.{◌≡◌, ◌∙◌, Result, Ok, Err, ap}
 use Rattle.spec_requests.specs.declared.request.Named.{Named}
-use Rattle.gf_words.specs.Parts.{made, pair}
+use Rattle.option_values.specs.Parts.{pair}
+use Rattle.gf_words.specs.Parts.{made}
 
 pub along : {A B : Type 0} {first one : Result A Named} {second other : Result B Named} → first ≡ one → second ≡ other
     → pair first second ≡ pair one other

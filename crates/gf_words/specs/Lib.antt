@@ -1,5 +1,4 @@
 pub mod Readings
-pub mod Polynomials
 pub mod Parts
 pub mod Commands
 pub mod Answers

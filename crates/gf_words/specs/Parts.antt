@@ -1,5 +1,5 @@
 -- The parts of a request, read one after another in the order of the tables of options.
-use Rattle.std.specs.Prelude.{ℕ, ℤ, List, Option, None, Some, Result, Ok, Err, if◌then◌else◌, option_and_then, option_map, unwrap_or, pos}
+use Rattle.std.specs.Prelude.{ℕ, ℤ, List, Option, Some, Result, Ok, Err, if◌then◌else◌, option_and_then, unwrap_or, pos}
 use Rattle.spec_text.specs.declared.decimals.Decimal.{Decimal}
 use Rattle.spec_ephemeris.specs.declared.body.Body.{Body}
 use Rattle.spec_ephemeris.specs.declared.body.Body.TheVariants.{Ssb}
@@ -11,8 +11,7 @@ use Rattle.spec_trees.specs.declared.cuts.CutRule.{CutRule}
 use Rattle.spec_trees.specs.declared.cuts.CutRule.TheVariants.{Half}
 use Rattle.spec_kinds.specs.declared.ask.Ask.{Ask}
 use Rattle.spec_kinds.specs.declared.kind.Kind.{Kind}
-use Rattle.spec_kinds.specs.declared.table.Use.{Use}
-use Rattle.spec_kinds.specs.declared.table.Use.TheVariants.{Needed, Optional, Unused}
+use Rattle.spec_kinds.specs.declared.table.Use.TheVariants.{Optional}
 use Rattle.spec_kinds.specs.Table.{row_of, takes_radii}
 use Rattle.spec_requests.specs.declared.request.FindAsk.{FindAsk}
 use Rattle.spec_requests.specs.declared.request.Named.{Named}
@@ -25,10 +24,11 @@ use Rattle.spec_requests.specs.declared.limits.TheConstants.{DEFAULT_TICK, DEFAU
 use Rattle.spec_requests.specs.Names.{Text, axis_of, cut_of, dir_of, frame_of, layout_of, observer_of, target_of, tick_of_word}
 use Rattle.spec_requests.specs.Options.{Values, blocks_of, decimal_of, depth_of, instant_of, relation_for, relation_in, scalar_time_of, seed_of, tick_in, use_of_ref2, width_of, workers_of}
 use Rattle.spec_requests.specs.Requests.{ask_of, first_number, nought, quad_in, value_or}
-use Rattle.gf_words.specs.declared.polynomials.Polynomial.{Polynomial}
+use Rattle.option_values.specs.declared.polynomials.Polynomial.{Polynomial}
+use Rattle.option_values.specs.Polynomials.{as_polynomial, polynomial_of}
+use Rattle.option_values.specs.Parts.{needed, pair, part}
 use Rattle.gf_words.specs.declared.scalars.ScalarOptions.{ScalarOptions}
 use Rattle.gf_words.specs.declared.sets.References.{References}
-use Rattle.gf_words.specs.Polynomials.{as_polynomial, polynomial_of}
 use Rattle.gf_words.specs.declared.searches.Axes.{Axes}
 use Rattle.gf_words.specs.declared.searches.Bodies.{Bodies}
 use Rattle.gf_words.specs.declared.searches.Ends.{Ends}
@@ -36,47 +36,10 @@ use Rattle.gf_words.specs.declared.searches.Limits.{Limits}
 use Rattle.gf_words.specs.declared.searches.Numbers.{Numbers}
 use Rattle.gf_words.specs.declared.searches.SearchOptions.{SearchOptions}
 
--- both parts, or the first of the two that is bad
-abbrev pub pair : {A B : Type 0} → Result A Named → Result B Named → Result (A × B) Named
-pair (Ok x) (Ok y) = Ok (x, y)
-pair (Ok x) (Err option) = Err option
-pair (Err option) second = Err option
-
 -- what is made of parts, where none is bad
 abbrev pub made : {A B : Type 0} → (A → B) → Result A Named → Result B Named
 made make (Ok x) = Ok (make x)
 made make (Err option) = Err option
-
--- ---- one part: what an option's word stands for, or the option, where it is bad
-
--- where there is a word, which is read as this
-abbrev pub used : {X : Type 0} → Named → Use → Option X → Result (Option X) Named
-used option Needed (Some x) = Ok (Some x)
-used option Optional (Some x) = Ok (Some x)
-used option Unused (Some x) = Err option
-used option usage None = Err option
-
--- where there is none
-abbrev pub left_out : {X : Type 0} → Named → Use → Result (Option X) Named
-left_out option Needed = Err option
-left_out option Optional = Ok None
-left_out option Unused = Ok None
-
--- what its usage makes of a part: of what its word is read as, where there is a word
-abbrev pub by_use : {X : Type 0} → Named → Use → Option (Option X) → Result (Option X) Named
-by_use option usage None = left_out option usage
-by_use option usage (Some read) = used option usage read
-
-abbrev pub part : {X : Type 0} → (Text → Option X) → Named → Use → Option Text → Result (Option X) Named
-part form option usage given = by_use option usage (option_map form given)
-
--- the same of an option that has to be there
-abbrev pub required : {X : Type 0} → Named → Option X → Result X Named
-required option None = Err option
-required option (Some x) = Ok x
-
-abbrev pub needed : {X : Type 0} → (Text → Option X) → Named → Option Text → Result X Named
-needed form option given = required option (option_and_then form given)
 
 -- ---- the parts of a search: what each group of options stands for, and how it is read, or the first that is bad
 

@@ -1,7 +1,6 @@
--- What `clap` read, as values of options and names of files.
-use Rattle.std.specs.Prelude.{◌≡◌, false, List, [], Option, codes, option_map, unwrap_or}
-use Rattle.std.specs.Borrow.{Bor}
-use Rattle.clap.specs.Walk.{all_of, first_of, rows_of}
+-- What `clap` read of whole command lines, and the names of files in it.
+use Rattle.std.specs.Prelude.{◌≡◌, false, List, [], codes, unwrap_or}
+use Rattle.clap.specs.Walk.{all_of, rows_of}
 use Rattle.clap.specs.Simple.{App, matches_of}
 use Rattle.clap.specs.Matches.{found_of}
 use Rattle.clap.specs.declared.parser.matches.ArgMatches.{ArgMatches}
@@ -9,17 +8,8 @@ use Rattle.clap.specs.declared.error.kind.ErrorKind.{ErrorKind}
 use Rattle.clap.specs.declared.error.kind.ErrorKind.TheVariants.{OutOfMemory}
 use Rattle.spec_requests.specs.declared.request.WordFault.{WordFault}
 use Rattle.spec_requests.specs.declared.request.WordFault.TheVariants.{Memory, Words}
-use Rattle.spec_requests.specs.Names.{Text, option_name}
-use Rattle.spec_requests.specs.Options.{Values}
+use Rattle.spec_requests.specs.Names.{Text}
 use Rattle.spec_requests.specs.Commands.{is_refused}
-
--- the text behind a reference, where there is one
-abbrev pub text_in : Option (Bor Text) → Option Text
-text_in = option_map (λ text. text.now)
-
--- the values of options and of the words of `gen`
-unfoldable pub values_of : ArgMatches → Values
-values_of matches option = first_of (option_name option) (rows_of (found_of matches))
 
 -- the names of the files
 unfoldable pub file_names_of : ArgMatches → List Text

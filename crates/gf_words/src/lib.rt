@@ -3,11 +3,7 @@
 #![tactic(auto)]
 
 mod commands;
-mod forms;
-mod parts;
-mod polynomials;
 mod readings;
-mod relations;
 mod requests;
 mod scalars;
 mod searches;

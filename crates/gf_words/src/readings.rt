@@ -1,13 +1,13 @@
-// What `clap` reads in the words of a command line, and the values and file names in it.
+// What `clap` reads in the words of a command line, and the file names in it.
 ghost use Rattle.std.specs.Prelude.{◌≡◌, ◌⊎◌, IfErr, IfOk, map, string_bytes, true};
 ghost use Rattle.clap.specs.Faults.{is_simple_and_free};
 ghost use Rattle.clap.specs.Simple.{app_of};
 ghost use Rattle.spec_requests.specs.Commands.{is_refused};
-ghost use Rattle.gf_words.specs.Readings.{IsReading, file_names_of, text_in, values_of, word_fault};
+ghost use Rattle.gf_words.specs.Readings.{IsReading, file_names_of, word_fault};
 
 use clap::error::ErrorKind;
 use clap::{ArgMatches, Command};
-use spec_requests::{FileNames, Named, WordFault, option_name};
+use spec_requests::{FileNames, WordFault};
 use std::alloc::{AllocError, Global};
 
 /// Reads words, of which the first is the command's name, by the rules of that command. The error is out of memory, or
@@ -36,13 +36,6 @@ fn fault_of_clap_error(kind: ErrorKind) -> WordFault
         ErrorKind::OutOfMemory => WordFault::Memory,
         _ => WordFault::Words,
     }
-}
-
-/// Returns the word that was given for an option, or for a word of `gen`. Returns none if it was left out.
-pub(crate) fn given_word<'a>(matches: &ArgMatches<'a>, option: Named) -> Option<&'a str>
-    ensures { text_in result ≡ values_of matches.now option }
-{
-    matches.get_str(option_name(option))
 }
 
 /// Copies the names of the files that were given, in their order. There may be none. The only error is out of memory.

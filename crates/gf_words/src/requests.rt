@@ -4,8 +4,9 @@ ghost use Rattle.spec_requests.specs.Commands.{command_rules, is_refused};
 ghost use Rattle.spec_requests.specs.Requests.{request_by, request_for, request_of};
 ghost use Rattle.spec_requests.specs.declared.tables.CommandName.TheVariants as command;
 ghost use Rattle.spec_requests.specs.declared.request.Request.TheVariants.{Check};
+ghost use Rattle.option_values.specs.Readings.{values_of};
 ghost use Rattle.gf_words.specs.Answers.{Answers};
-ghost use Rattle.gf_words.specs.Readings.{IsReading, file_names_of, values_of};
+ghost use Rattle.gf_words.specs.Readings.{IsReading, file_names_of};
 
 use crate::commands::command_with_rules;
 use crate::readings::{file_names, read_words};
@@ -13,8 +14,8 @@ use crate::scalars::scalar_request;
 use crate::searches::{copy_text, search_of_matches};
 use crate::sets::set_request;
 use crate::texts::generated_request;
-use crate::{forms, parts};
 use clap::ArgMatches;
+use option_values::{certificate_option, command_named};
 use spec_requests::{CommandName, Named, Request, WordFault};
 use std::alloc::Global;
 
@@ -43,7 +44,7 @@ fn verify_request(alloc: Global, matches: &ArgMatches<'_>) -> Result<Request, Wo
         (file_names_of matches.now)) result }
 {
     let find = search_of_matches(alloc, matches)?;
-    match parts::certificate_option(matches) {
+    match certificate_option(matches) {
         Some(name) => match copy_text(alloc, name) {
             Ok(cert) => Ok(Request::Verify { find, cert }),
             Err(_) => Err(WordFault::Memory),
@@ -125,7 +126,7 @@ pub fn request(alloc: Global, words: &[String]) -> Result<Request, WordFault>
         ⊎ (request_of (map string_bytes words.now) ≡ Err fault)) }
 {
     match words {
-        [first, ..] => match forms::command_named(first) {
+        [first, ..] => match command_named(first) {
             Some(command) => request_of_command(alloc, command, words),
             None => Err(WordFault::UnknownCommand),
         },

@@ -1,14 +1,15 @@
 // Scalars: the options of `scalar` become the request for the times at which a polynomial passes 0.
 ghost use Rattle.std.specs.Prelude.{◌≡◌, IfOk};
 ghost use Rattle.spec_requests.specs.Requests.{scalar_by, scalar_of};
+ghost use Rattle.option_values.specs.Readings.{values_of};
 ghost use Rattle.gf_words.specs.Answers.{Answers};
 ghost use Rattle.gf_words.specs.Parts.{scalar_by_options, scalar_read, times_read};
-ghost use Rattle.gf_words.specs.Readings.{values_of};
 
-use crate::parts::{self, join_parts};
-use crate::polynomials::Polynomial;
 use crate::searches::{Limits, copy_text, read_limits, word_or_default};
 use clap::ArgMatches;
+use option_values::{
+    Polynomial, direction_option, join_parts, polynomial_option, scalar_time_option,
+};
 use spec_events::Dir;
 use spec_requests::{Named, Request, ScalarAsk, WordFault};
 use spec_scalars::Plan;
@@ -29,8 +30,8 @@ pub(crate) struct ScalarOptions {
 fn read_times(matches: &ArgMatches<'_>) -> Result<(i64, i64), Named>
     ensures { result ≡ times_read (values_of matches.now) }
 {
-    let from = parts::scalar_time_option(matches, Named::From);
-    join_parts(from, parts::scalar_time_option(matches, Named::To))
+    let from = scalar_time_option(matches, Named::From);
+    join_parts(from, scalar_time_option(matches, Named::To))
 }
 
 // Reads the options of `scalar` in the order of their faults. One that may be left out has its default. The error names
@@ -38,10 +39,7 @@ fn read_times(matches: &ArgMatches<'_>) -> Result<(i64, i64), Named>
 fn read_scalar_options(matches: &ArgMatches<'_>) -> Result<ScalarOptions, Named>
     ensures { result ≡ scalar_read (values_of matches.now) }
 {
-    let sought = join_parts(
-        parts::polynomial_option(matches),
-        parts::direction_option(matches),
-    );
+    let sought = join_parts(polynomial_option(matches), direction_option(matches));
     let manner = join_parts(read_times(matches), read_limits(matches));
     match join_parts(sought, manner) {
         Ok(((polynomial, dir), ((from, to), limits))) => Ok(ScalarOptions {

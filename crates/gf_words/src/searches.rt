@@ -4,13 +4,18 @@ ghost use Rattle.spec_requests.specs.declared.request.Named.TheVariants as opt;
 ghost use Rattle.spec_requests.specs.Requests.{nought, ref2_text, search_by, search_of, values_text};
 ghost use Rattle.spec_kinds.specs.Table.{takes_radii};
 ghost use Rattle.spec_requests.specs.Names.{dir_of, kind_of, target_of};
+ghost use Rattle.option_values.specs.Readings.{text_in, values_of};
 ghost use Rattle.gf_words.specs.Answers.{Answers};
 ghost use Rattle.gf_words.specs.Parts.{ask_read, axes_read, bodies_read, ends_read, limits_read, numbers_read, radii_read, search_by_options, search_read, search_with_texts, span_read};
-ghost use Rattle.gf_words.specs.Readings.{file_names_of, text_in, values_of};
+ghost use Rattle.gf_words.specs.Readings.{file_names_of};
 
-use crate::parts::{self, join_parts};
-use crate::readings::{file_names, given_word};
+use crate::readings::file_names;
 use clap::ArgMatches;
+use option_values::{
+    axis_option, cut_rule_option, decimal_option, depth_option, direction_option, frame_option,
+    given_word, instant_option, join_parts, kind_option, observer_option, second_body_option,
+    target_option, ticks_option, ticks_or_default, width_option, workers_option,
+};
 use spec_bodies::Frame;
 use spec_ephemeris::Body;
 use spec_events::Dir;
@@ -96,8 +101,8 @@ fn first_number(kind: Kind, radius: Option<Decimal>, reference: Option<Decimal>)
 fn read_bodies(matches: &ArgMatches<'_>, kind: Kind, target: Body) -> Result<Bodies, Named>
     ensures { result ≡ bodies_read (values_of matches.now) kind target }
 {
-    let second = parts::second_body_option(matches, kind.second());
-    match join_parts(second, parts::observer_option(matches)) {
+    let second = second_body_option(matches, kind.second());
+    match join_parts(second, observer_option(matches)) {
         Ok((second, observer)) => Ok(Bodies {
             target,
             second,
@@ -112,8 +117,8 @@ fn read_bodies(matches: &ArgMatches<'_>, kind: Kind, target: Body) -> Result<Bod
 fn read_axes(matches: &ArgMatches<'_>, kind: Kind) -> Result<Axes, Named>
     ensures { result ≡ axes_read (values_of matches.now) kind }
 {
-    let frame = parts::frame_option(matches, kind.frame());
-    match join_parts(frame, parts::axis_option(matches, kind.axis())) {
+    let frame = frame_option(matches, kind.frame());
+    match join_parts(frame, axis_option(matches, kind.axis())) {
         Ok((frame, axis)) => Ok(Axes {
             frame: frame.unwrap_or(Frame::Eq),
             axis: axis.unwrap_or(0),
@@ -130,10 +135,10 @@ fn read_radii(
 ) -> Result<(Option<Decimal>, Option<Decimal>), Named>
     ensures { result ≡ radii_read (values_of matches.now) kind }
 {
-    let radius1 = parts::decimal_option(matches, Named::Radius1, kind.radii());
+    let radius1 = decimal_option(matches, Named::Radius1, kind.radii());
     join_parts(
         radius1,
-        parts::decimal_option(matches, Named::Radius2, kind.radii()),
+        decimal_option(matches, Named::Radius2, kind.radii()),
     )
 }
 
@@ -141,7 +146,7 @@ fn read_radii(
 fn read_numbers(matches: &ArgMatches<'_>, kind: Kind) -> Result<Numbers, Named>
     ensures { result ≡ numbers_read (values_of matches.now) kind }
 {
-    let reference = parts::decimal_option(matches, Named::Ref, kind.reference());
+    let reference = decimal_option(matches, Named::Ref, kind.reference());
     match join_parts(reference, read_radii(matches, kind)) {
         Ok((reference, (radius1, radius2))) => Ok(Numbers {
             value1: first_number(kind, radius1, reference),
@@ -188,9 +193,9 @@ fn read_ask<X: Copy>(
 fn read_span(matches: &ArgMatches<'_>) -> Result<(Option<i64>, Option<i64>), Named>
     ensures { result ≡ span_read (values_of matches.now) }
 {
-    let tick = parts::ticks_or_default(matches);
-    let from = parts::instant_option(matches, Named::From, tick);
-    join_parts(from, parts::instant_option(matches, Named::To, tick))
+    let tick = ticks_or_default(matches);
+    let from = instant_option(matches, Named::From, tick);
+    join_parts(from, instant_option(matches, Named::To, tick))
 }
 
 // Reads the number of ticks in a second, which is 1 if it is left out, and the first and the last time of the span in
@@ -198,7 +203,7 @@ fn read_span(matches: &ArgMatches<'_>) -> Result<(Option<i64>, Option<i64>), Nam
 fn read_tick_and_span(matches: &ArgMatches<'_>) -> Result<Ends, Named>
     ensures { result ≡ ends_read (values_of matches.now) }
 {
-    match join_parts(parts::ticks_option(matches), read_span(matches)) {
+    match join_parts(ticks_option(matches), read_span(matches)) {
         Ok((tick, (from, to))) => Ok(Ends {
             tick: tick.unwrap_or(DEFAULT_TICK),
             from,
@@ -213,11 +218,8 @@ fn read_tick_and_span(matches: &ArgMatches<'_>) -> Result<Ends, Named>
 pub(crate) fn read_limits(matches: &ArgMatches<'_>) -> Result<Limits, Named>
     ensures { result ≡ limits_read (values_of matches.now) }
 {
-    let sizes = join_parts(parts::width_option(matches), parts::depth_option(matches));
-    let manner = join_parts(
-        parts::workers_option(matches),
-        parts::cut_rule_option(matches),
-    );
+    let sizes = join_parts(width_option(matches), depth_option(matches));
+    let manner = join_parts(workers_option(matches), cut_rule_option(matches));
     match join_parts(sizes, manner) {
         Ok(((width, depth), (workers, cut))) => Ok(Limits {
             width: width.unwrap_or(DEFAULT_WIDTH),
@@ -363,7 +365,7 @@ fn search_of_target(
     requires target { option_and_then target_of (values_of matches.now opt.Target) ≡ Some target }
     ensures { Answers (search_by (values_of matches.now) (file_names_of matches.now)) result }
 {
-    match read_search(matches, kind, target, parts::direction_option(matches)) {
+    match read_search(matches, kind, target, direction_option(matches)) {
         Ok((search, dir)) => match search_of_options(alloc, matches, kind, target, search, dir) {
             Ok(find) => Ok(find),
             Err(_) => Err(WordFault::Memory),
@@ -380,7 +382,7 @@ pub(crate) fn search_of_matches(
 ) -> Result<FindAsk, WordFault>
     ensures { Answers (search_by (values_of matches.now) (file_names_of matches.now)) result }
 {
-    match join_parts(parts::kind_option(matches), parts::target_option(matches)) {
+    match join_parts(kind_option(matches), target_option(matches)) {
         Ok((kind, target)) => search_of_target(alloc, matches, kind, target),
         Err(option) => Err(WordFault::BadValue(option)),
     }

@@ -5,17 +5,19 @@ ghost use Rattle.spec_requests.specs.declared.tables.CommandName.TheVariants as 
 ghost use Rattle.spec_requests.specs.Names.{target_of};
 ghost use Rattle.spec_requests.specs.Options.{set_kind_of};
 ghost use Rattle.spec_requests.specs.Requests.{request_by, search_of, set_of};
+ghost use Rattle.option_values.specs.Readings.{values_of};
 ghost use Rattle.gf_words.specs.Answers.{Answers};
 ghost use Rattle.gf_words.specs.Parts.{references_after, references_by, references_read, search_by_options};
-ghost use Rattle.gf_words.specs.Readings.{file_names_of, values_of};
+ghost use Rattle.gf_words.specs.Readings.{file_names_of};
 
-use crate::parts::{self, join_parts};
-use crate::readings::given_word;
-use crate::relations::use_of_ref2;
 use crate::searches::{
     SearchOptions, read_search, search_with_texts, values_text, with_second_word,
 };
 use clap::ArgMatches;
+use option_values::{
+    decimal_option, given_word, join_parts, relation_option, set_kind_option, target_option,
+    use_of_ref2,
+};
 use spec_ephemeris::Body;
 use spec_events::Dir;
 use spec_kinds::Kind;
@@ -34,7 +36,7 @@ pub(crate) struct References {
 fn read_references(matches: &ArgMatches<'_>, kind: Kind) -> Result<References, Named>
     ensures { result ≡ references_read (values_of matches.now) kind }
 {
-    match parts::relation_option(matches, kind) {
+    match relation_option(matches, kind) {
         Ok(relation) => read_second_reference(matches, relation),
         Err(option) => Err(option),
     }
@@ -45,7 +47,7 @@ fn read_references(matches: &ArgMatches<'_>, kind: Kind) -> Result<References, N
 fn read_second_reference(matches: &ArgMatches<'_>, relation: Relation) -> Result<References, Named>
     ensures { result ≡ references_after (values_of matches.now opt.Ref2) (Ok relation) }
 {
-    match parts::decimal_option(matches, Named::Ref2, use_of_ref2(relation)) {
+    match decimal_option(matches, Named::Ref2, use_of_ref2(relation)) {
         Ok(ref2) => Ok(References { relation, ref2 }),
         Err(option) => Err(option),
     }
@@ -105,10 +107,7 @@ pub(crate) fn set_request(alloc: Global, matches: &ArgMatches<'_>) -> Result<Req
     ensures { Answers (request_by command.Set (values_of matches.now) (file_names_of matches.now))
         result }
 {
-    match join_parts(
-        parts::set_kind_option(matches),
-        parts::target_option(matches),
-    ) {
+    match join_parts(set_kind_option(matches), target_option(matches)) {
         Ok((kind, target)) => set_of_target(alloc, matches, kind, target),
         Err(option) => Err(WordFault::BadValue(option)),
     }

@@ -1,6 +1,7 @@
 use Rattle.spec_requests.specs.declared.request.Request.TheVariants.{Cert}
 use Rattle.spec_requests.specs.Requests.{search_by}
-use Rattle.gf_words.specs.Readings.{file_names_of, values_of}
+use Rattle.option_values.specs.Readings.{values_of}
+use Rattle.gf_words.specs.Readings.{file_names_of}
 use Rattle.gf_words.proofs.Answering.{search_makes}
 use Rattle.gf_words.proofs.requests.cert_request.Goals as goal
 

@@ -1,7 +1,7 @@
 use Rattle.std.proofs.Common.{◌∙◌, Ok, ap, inr, sym}
 use Rattle.spec_requests.specs.declared.request.Request.TheVariants.{Scalar}
 use Rattle.spec_requests.specs.declared.request.ScalarAsk.{ScalarAsk}
-use Rattle.gf_words.specs.Readings.{values_of}
+use Rattle.option_values.specs.Readings.{values_of}
 use Rattle.gf_words.proofs.Filling.{scalar_bad, scalar_found}
 use Rattle.gf_words.proofs.scalars.scalar_request.Goals as goal
 

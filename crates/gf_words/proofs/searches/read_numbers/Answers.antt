@@ -2,8 +2,9 @@ use Rattle.std.proofs.Common.{◌∙◌, ap}
 use Rattle.spec_kinds.specs.declared.table.Use.{Use}
 use Rattle.spec_requests.specs.declared.request.Named.TheVariants as opt
 use Rattle.spec_requests.specs.Options.{decimal_of}
-use Rattle.gf_words.specs.Readings.{values_of}
-use Rattle.gf_words.specs.Parts.{numbers_of, part}
+use Rattle.option_values.specs.Readings.{values_of}
+use Rattle.option_values.specs.Parts.{part}
+use Rattle.gf_words.specs.Parts.{numbers_of}
 use Rattle.gf_words.proofs.Pairs.{along, first_bad}
 use Rattle.gf_words.proofs.searches.read_numbers.Goals as goal
 

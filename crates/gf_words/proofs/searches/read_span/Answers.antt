@@ -1,5 +1,5 @@
 use Rattle.spec_requests.proofs.LimitLemmas.{tick_is}
-use Rattle.gf_words.specs.Readings.{values_of}
+use Rattle.option_values.specs.Readings.{values_of}
 use Rattle.gf_words.proofs.searches.read_span.Goals as goal
 
 pub instant_option-from-requires : goal.instant_option-from-requires

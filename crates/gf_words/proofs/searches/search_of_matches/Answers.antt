@@ -2,7 +2,8 @@ use Rattle.std.proofs.Common.{◌∙◌, inr}
 use Rattle.spec_requests.specs.Names.{kind_of}
 use Rattle.spec_requests.specs.Options.{bad_option}
 use Rattle.spec_requests.specs.Requests.{search_by}
-use Rattle.gf_words.specs.Readings.{file_names_of, values_of}
+use Rattle.option_values.specs.Readings.{values_of}
+use Rattle.gf_words.specs.Readings.{file_names_of}
 use Rattle.gf_words.proofs.Filling.{not_known}
 use Rattle.gf_words.proofs.Pairs.{along}
 use Rattle.gf_words.proofs.searches.search_of_matches.Goals as goal

@@ -1,5 +1,6 @@
 use Rattle.spec_requests.specs.declared.request.FindAsk.{FindAsk}
-use Rattle.gf_words.specs.Readings.{file_names_of, values_of}
+use Rattle.option_values.specs.Readings.{values_of}
+use Rattle.gf_words.specs.Readings.{file_names_of}
 use Rattle.gf_words.proofs.Answering.{search_made}
 use Rattle.gf_words.proofs.Rules.{made_along}
 use Rattle.gf_words.proofs.searches.search_of_options.Goals as goal

@@ -1,6 +1,7 @@
 use Rattle.std.proofs.Common.{◌∙◌, Ok, ap, inr, sym}
 use Rattle.spec_requests.specs.declared.request.FindAsk.{FindAsk}
-use Rattle.gf_words.specs.Readings.{file_names_of, values_of}
+use Rattle.option_values.specs.Readings.{values_of}
+use Rattle.gf_words.specs.Readings.{file_names_of}
 use Rattle.gf_words.proofs.Filling.{search_bad, search_found}
 use Rattle.gf_words.proofs.searches.search_of_target.Goals as goal
 

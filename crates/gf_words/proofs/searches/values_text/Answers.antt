@@ -1,7 +1,7 @@
 use Rattle.std.proofs.Common.{◌∙◌, sym, ap}
 use Rattle.spec_requests.specs.Names.{Text}
 use Rattle.spec_kinds.specs.Table.{is_unused}
-use Rattle.gf_words.specs.Readings.{values_of}
+use Rattle.option_values.specs.Readings.{values_of}
 use Rattle.gf_words.proofs.Answering.{no_text, radii_text, ref_text}
 use Rattle.gf_words.proofs.Rules.{made_along}
 use Rattle.gf_words.proofs.searches.values_text.Goals as goal

@@ -1,7 +1,8 @@
 use Rattle.std.proofs.Common.{◌∙◌, ◌++◌, ap}
 use Rattle.spec_requests.specs.declared.request.Request.TheVariants.{Set}
 use Rattle.spec_requests.specs.Requests.{ref2_text, set_of}
-use Rattle.gf_words.specs.Readings.{file_names_of, values_of}
+use Rattle.option_values.specs.Readings.{values_of}
+use Rattle.gf_words.specs.Readings.{file_names_of}
 use Rattle.gf_words.proofs.Answering.{set_made}
 use Rattle.gf_words.proofs.sets.set_of_options.Goals as goal
 

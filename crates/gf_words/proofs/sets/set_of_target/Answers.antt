@@ -1,7 +1,8 @@
 use Rattle.std.proofs.Common.{◌∙◌, Ok, ap, inr, sym}
 use Rattle.spec_requests.specs.declared.request.Request.{Request}
 use Rattle.spec_requests.specs.Requests.{of_search, set_of}
-use Rattle.gf_words.specs.Readings.{file_names_of, values_of}
+use Rattle.option_values.specs.Readings.{values_of}
+use Rattle.gf_words.specs.Readings.{file_names_of}
 use Rattle.gf_words.proofs.Filling.{set_bad, set_found}
 use Rattle.gf_words.proofs.sets.set_of_target.Goals as goal
 

@@ -1,7 +1,8 @@
 use Rattle.std.proofs.Common.{◌∙◌, Ok, ap, inr}
 use Rattle.spec_requests.specs.Options.{bad_in_set, set_kind_of}
 use Rattle.spec_requests.specs.Requests.{of_search, set_of, set_search_by}
-use Rattle.gf_words.specs.Readings.{file_names_of, values_of}
+use Rattle.option_values.specs.Readings.{values_of}
+use Rattle.gf_words.specs.Readings.{file_names_of}
 use Rattle.gf_words.proofs.Filling.{not_known}
 use Rattle.gf_words.proofs.Pairs.{along}
 use Rattle.gf_words.proofs.sets.set_request.Goals as goal

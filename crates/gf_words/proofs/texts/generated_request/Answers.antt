@@ -1,4 +1,4 @@
-use Rattle.gf_words.specs.Readings.{values_of}
+use Rattle.option_values.specs.Readings.{values_of}
 use Rattle.gf_words.proofs.Filling.{text_found, word_bad}
 use Rattle.gf_words.proofs.texts.generated_request.Goals as goal
 

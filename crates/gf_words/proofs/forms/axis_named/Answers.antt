@@ -1,6 +1,0 @@
-use Rattle.spec_requests.specs.Names.{axis_of}
-use Rattle.gf_words.proofs.forms.axis_named.Goals as goal
-
-pub returns : goal.returns
-unfolding axis_of
-returns c = c.value_named.ensures

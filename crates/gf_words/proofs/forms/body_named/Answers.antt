@@ -1,6 +1,0 @@
-use Rattle.spec_requests.specs.Names.{observer_of}
-use Rattle.gf_words.proofs.forms.body_named.Goals as goal
-
-pub returns : goal.returns
-unfolding observer_of
-returns c = c.value_named.ensures

@@ -1,6 +1,0 @@
-use Rattle.spec_requests.specs.Names.{command_of}
-use Rattle.gf_words.proofs.forms.command_named.Goals as goal
-
-pub returns : goal.returns
-unfolding command_of
-returns c = c.value_named.ensures

@@ -1,6 +1,0 @@
-use Rattle.spec_requests.specs.Names.{cut_of}
-use Rattle.gf_words.proofs.forms.cut_rule_named.Goals as goal
-
-pub returns : goal.returns
-unfolding cut_of
-returns c = c.value_named.ensures

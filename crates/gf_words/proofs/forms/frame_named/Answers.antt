@@ -1,6 +1,0 @@
-use Rattle.spec_requests.specs.Names.{frame_of}
-use Rattle.gf_words.proofs.forms.frame_named.Goals as goal
-
-pub returns : goal.returns
-unfolding frame_of
-returns c = c.value_named.ensures

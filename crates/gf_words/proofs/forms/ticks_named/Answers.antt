@@ -1,6 +1,0 @@
-use Rattle.spec_requests.specs.Names.{tick_of_word}
-use Rattle.gf_words.proofs.forms.ticks_named.Goals as goal
-
-pub returns : goal.returns
-unfolding tick_of_word
-returns c = c.value_named.ensures

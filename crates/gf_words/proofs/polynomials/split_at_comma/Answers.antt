@@ -1,5 +1,0 @@
-use Rattle.gf_words.proofs.Numbers.{comma_found}
-use Rattle.gf_words.proofs.polynomials.split_at_comma.Goals as goal
-
-pub returns : goal.returns
-returns c = comma_found c.args.word.now c.split_once.result c.split_once.ensures.cases

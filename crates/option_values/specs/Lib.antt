@@ -1,0 +1,3 @@
+pub mod Readings
+pub mod Polynomials
+pub mod Parts

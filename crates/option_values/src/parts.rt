@@ -111,10 +111,7 @@ pub fn target_option(matches: &ArgMatches<'_>) -> Result<Body, Named>
 
 /// Reads the option that names the second body, which `usage` needs, allows or forbids. The option is bad for the
 /// barycentre of the solar system.
-pub fn second_body_option(
-    matches: &ArgMatches<'_>,
-    usage: Use,
-) -> Result<Option<Body>, Named>
+pub fn second_body_option(matches: &ArgMatches<'_>, usage: Use) -> Result<Option<Body>, Named>
     ensures { result ≡ part target_of opt.Second usage (values_of matches.now opt.Second) }
 {
     let read = given_word(matches, Named::Second).map(forms::target_named);

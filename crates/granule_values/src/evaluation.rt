@@ -7,8 +7,8 @@ ghost use Rattle.spec_motions.specs.Enclosures.{arguments};
 ghost use Rattle.granule_values.specs.Bases.{ArePlain, AreAll, AreKept, AreOver, AreRows, IsCentre, IsServed, IsWhole, IsSingle, AreSeveral, value_over, step_over};
 ghost use Rattle.granule_values.specs.Parts.{granule_parts, if_wanted, wanted_along};
 
-use crate::bases::{PlainRow, RowRoom, Rows};
 use crate::axis_entries::{AxisEntries, ColumnQuestion};
+use crate::bases::{PlainRow, RowRoom, Rows};
 use crate::granule_span::GranuleSpan;
 use cheby_difference::{position_step_over_row, velocity_over_row, velocity_step_over_row};
 use cheby_enclose::{AxisCoefficients, argument_at, arguments_by, position_over_row};

@@ -6,8 +6,8 @@ ghost use Rattle.spec_bodies.specs.Views.{step_interval};
 ghost use Rattle.granule_values.specs.Bases.{IsWhole};
 ghost use Rattle.granule_values.specs.Parts.{granule_parts, if_wanted, wanted_along};
 
-use crate::bases::Rows;
 use crate::axis_entries::{AxisEntries, ColumnQuestion};
+use crate::bases::Rows;
 use crate::evaluation::{step_over, value_over};
 use crate::granule_span::GranuleSpan;
 use crate::range_rows::RangeRows;

@@ -1,10 +1,11 @@
 -- At a single time the enclosure of a term is an interval alone: it is the middle and the range, and nothing changes.
-use Rattle.std.proofs.Common.{◌≡◌, ◌∙◌, Bool, true, false, ap, arith, refl, subst, sym, ℤ}
+use Rattle.std.proofs.Common.{◌≡◌, ◌∙◌, Bool, true, false, ap, arith, refl, subst, sym, ℤ, ◌≤ℤ◌}
 use Rattle.std.proofs.lemmas.Int.{ints}
 use lib.Signed.{lt_z}
 use Rattle.spec_numbers.proofs.Order.{lin}
 use Rattle.spec_intervals.specs.Interval.{Interval, IsExponent, zero_interval, sum as interval_sum, difference as interval_difference, product as interval_product, signed_square as interval_square}
 use Rattle.spec_intervals.specs.Enclosure.{Enclosure, triple, enclosure, middle, constant_of, sum_of, difference_of, product_of, signed_square_of}
+use Rattle.spec_intervals.proofs.Centred.{middle_between}
 use Rattle.spec_ephemeris.specs.Granules.{series_at}
 use Rattle.spec_expressions.specs.Term.{Term, enclosure_of}
 use Rattle.spec_bodies.specs.Meanings.{factor_interval}
@@ -18,7 +19,14 @@ use Rattle.column_steps.specs.Values.{AreOperands, IsOperand}
 use Rattle.body_states.specs.declared.single_time.SingleTime.{SingleTime}
 use Rattle.body_states.specs.Moments.{IsSingle, point_at}
 use Rattle.body_states.proofs.Good.{AreWithin}
-use Rattle.body_states.proofs.Sums.{middle_alone}
+
+-- a single time is its own middle
+pub middle_alone : (a b : ℤ) → a ≤ℤ b → lt_z a b ≡ false → (middle a b ≡ a) × (b ≡ a)
+middle_alone a b ordered single =
+    let between = middle_between a b ordered in
+    let from = between.0 in
+    let upto = between.1 in
+    (omega (arith, ints, lin, ordered, single, from, upto), omega (arith, ints, lin, ordered, single))
 
 module _ (v : View) (t : ℤ) where
   not_later : lt_z t t ≡ false

@@ -7,10 +7,11 @@ use Rattle.spec_intervals.specs.Enclosure.{Enclosure}
 use Rattle.spec_bodies.specs.Views.{columns_of}
 use Rattle.event_expr.specs.declared.axes.Axes.{Axes}
 use Rattle.event_expr.specs.Leaves.{has_axis}
-use Rattle.body_states.specs.declared.column_entries.AxisEntries.{AxisEntries}
+use Rattle.granule_values.specs.declared.axis_entries.AxisEntries.{AxisEntries}
+use Rattle.granule_values.specs.Parts.{entry_at, if_wanted, wanted_along}
 use Rattle.body_states.specs.declared.column_entries.ColumnEntry.{ColumnEntry}
 use Rattle.body_states.specs.declared.sources.TheConstants.{KEPT_COLUMNS}
-use Rattle.body_states.specs.Ranges.{Asked, AreEntries, IsEntryAt, column_parts, entry_at, entry_of, if_wanted, kept_columns, nothing_entered, turn_of, wanted_along}
+use Rattle.body_states.specs.Ranges.{Asked, AreEntries, IsEntryAt, column_parts, entry_of, kept_columns, nothing_entered, turn_of}
 
 -- ---- along the wanted axes
 pub same_wanted : (axes : Axes) (f g : ℕ → Enclosure) → ((axis : ℕ) → axis < 3 → f axis ≡ g axis) → wanted_along axes f ≡ wanted_along axes g

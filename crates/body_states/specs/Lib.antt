@@ -1,4 +1,3 @@
-pub mod Bases
 pub mod Dividers
 pub mod Factors
 pub mod Moments

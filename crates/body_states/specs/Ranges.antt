@@ -1,18 +1,16 @@
 -- What the columns in use are over some times: enclosures, or, if the middle is not looked at, ranges.
-use Rattle.std.specs.Prelude.{◌≡◌, ◌<◌, ◌+◌, ◌||◌, ℕ, zero, suc, ℤ, Bool, true, false, Option, None, Some, List, length, take, slice_index_or}
+use Rattle.std.specs.Prelude.{◌≡◌, ◌<◌, ◌+◌, ◌||◌, ℕ, zero, suc, ℤ, Bool, true, List, length, take, slice_index_or}
 use Rattle.spec_intervals.specs.Enclosure.{Enclosure}
-use Rattle.spec_ephemeris.specs.Granules.{series_at, series_of}
-use Rattle.spec_ephemeris.specs.Series.{Series}
+use Rattle.spec_ephemeris.specs.Granules.{series_at}
 use Rattle.spec_bodies.specs.declared.frame.Frame.{Frame}
 use Rattle.spec_bodies.specs.declared.frame.Frame.TheVariants.{Eq, Ecl}
 use Rattle.spec_bodies.specs.declared.quantity.Quantity.{Quantity}
-use Rattle.spec_bodies.specs.Views.{View, columns_of, series_enclosure, step_interval, value_interval}
+use Rattle.spec_bodies.specs.Views.{View, columns_of, step_interval, value_interval}
 use Rattle.event_expr.specs.declared.axes.Axes.{Axes}
-use Rattle.body_states.specs.declared.column_entries.AxisEntries.{AxisEntries}
+use Rattle.granule_values.specs.declared.axis_entries.ColumnQuestion.{ColumnQuestion}
+use Rattle.granule_values.specs.Parts.{nothing_along, series_parts, wanted_along}
 use Rattle.body_states.specs.declared.column_entries.ColumnEntry.{ColumnEntry}
-use Rattle.body_states.specs.declared.column_entries.ColumnQuestion.{ColumnQuestion}
 use Rattle.body_states.specs.declared.column_ranges.ColumnRange.{ColumnRange}
-use Rattle.body_states.specs.declared.granule_span.GranuleSpan.{GranuleSpan}
 use Rattle.body_states.specs.declared.sources.TheConstants.{KEPT_COLUMNS}
 
 -- a quantity of the columns of a view along some axes of the files, over the times from a first to a last
@@ -32,15 +30,7 @@ column_range q number axis =
     let s = series_at q.view.ephemeris number axis q.first in
     record { values = value_interval q.quantity s q.first q.last; changes = step_interval q.quantity s q.first q.last }
 
--- the enclosure of a series, or, if the middle is not looked at, one whose mid and range both hold all values
-abbrev pub series_parts : Bool → Quantity → ℤ → ℤ → Series → Enclosure
-series_parts true quantity a b s = series_enclosure quantity a b s
-series_parts false quantity a b s = record { mid = value_interval quantity s a b; range = value_interval quantity s a b; step = step_interval quantity s a b }
-
--- that of a granule along an axis, and of a column
-abbrev pub granule_parts : GranuleSpan → Bool → Quantity → ℕ → Enclosure
-granule_parts s centred quantity axis = series_parts centred quantity s.times.now.first s.times.now.last (series_of s.granule axis)
-
+-- their enclosure, or, if the middle is not looked at, their range as mid and range
 abbrev pub column_parts : Bool → Asked → ℕ → ℕ → Enclosure
 column_parts centred q number axis = series_parts centred q.quantity q.first q.last (series_at q.view.ephemeris number axis q.first)
 
@@ -52,21 +42,6 @@ own_axes Ecl axes = record { x = axes.x; y = axes.y || axes.z; z = axes.y || axe
 -- ---- those that are wanted, by axis
 abbrev pub is_any : Axes → Bool
 is_any axes = axes.x || (axes.y || axes.z)
-
-abbrev pub nothing_along : AxisEntries
-nothing_along = record { x = None; y = None; z = None }
-
-abbrev pub if_wanted : Bool → Enclosure → Option Enclosure
-if_wanted true parts = Some parts
-if_wanted false parts = None
-
-abbrev pub wanted_along : Axes → (ℕ → Enclosure) → AxisEntries
-wanted_along axes parts = record { x = if_wanted axes.x (parts 0); y = if_wanted axes.y (parts 1); z = if_wanted axes.z (parts 2) }
-
-abbrev pub entry_at : AxisEntries → ℕ → Option Enclosure
-entry_at e zero = e.x
-entry_at e (suc zero) = e.y
-entry_at e (suc (suc axis)) = e.z
 
 -- ---- of a column, and of the first columns in use, as many as are kept
 abbrev pub nothing_entered : ColumnEntry

@@ -5,13 +5,13 @@ ghost use Rattle.spec_bodies.specs.Views.{Fits};
 ghost use Rattle.body_states.specs.Dividers.{granule_seconds};
 ghost use Rattle.body_states.specs.Ranges.{AreWritten, asked_of, column_range, entry_of};
 
-use crate::column_entries::{ColumnEntry, ColumnQuestion};
+use crate::column_entries::ColumnEntry;
 use crate::columns::has_any_axis;
-use crate::range_rows::RangeRows;
 use crate::sources::KEPT_COLUMNS;
 use crate::states::BodyStates;
 use event_expr::Axes;
 use event_expr::rules::TimeSpan;
+use granule_values::{ColumnQuestion, RangeRows};
 use ival_core::{Divider, Ival};
 use spec_bodies::Quantity;
 use std::marker::Model;

@@ -4,17 +4,16 @@ ghost use Rattle.spec_ephemeris.specs.Granules.{series_at, series_of};
 ghost use Rattle.spec_bodies.specs.Reading.{IsUsable};
 ghost use Rattle.spec_bodies.specs.Views.{Fits};
 ghost use Rattle.event_expr.specs.Leaves.{has_axis};
-ghost use Rattle.body_states.specs.Bases.{AreKept};
+ghost use Rattle.granule_values.specs.Bases.{AreKept};
 ghost use Rattle.body_states.specs.Dividers.{granule_seconds};
 ghost use Rattle.body_states.specs.Ranges.{AreEntries, AreWritten, asked_of, column_parts, entry_of, is_any, kept_columns, turn_of};
 
-use crate::bases::RowRoom;
-use crate::column_entries::{ColumnEntry, ColumnQuestion, find_axis_entries};
-use crate::granule_span::GranuleSpan;
+use crate::column_entries::{ColumnEntry, find_axis_entries};
 use crate::sources::KEPT_COLUMNS;
 use crate::states::{BodyStates, divider_of};
 use event_expr::Axes;
 use event_expr::rules::TimeSpan;
+use granule_values::{ColumnQuestion, GranuleSpan, RowRoom};
 use ival_core::{Divider, Enclosure};
 
 impl<'e> BodyStates<'e> {

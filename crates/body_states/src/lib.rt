@@ -8,17 +8,11 @@
 #![tactic(auto)]
 
 mod answers;
-mod bases;
 mod column_entries;
 mod column_ranges;
 mod columns;
-mod evaluation;
 mod factors;
-mod granule_span;
-mod made_rows;
 mod points;
-mod range_rows;
-mod ranges;
 mod single_time;
 mod snapshots;
 mod sources;
@@ -27,7 +21,7 @@ mod states;
 pub use column_ranges::{ColumnRange, ColumnRanges};
 pub use eph_model::{Body, Ephemeris};
 pub use event_expr::States;
-pub use range_rows::RangeRows;
+pub use granule_values::RangeRows;
 pub use snapshots::{Snapshot, blank};
 pub use spec_bodies::{Factor, Frame, Quantity, Source};
 pub use states::BodyStates;

@@ -4,7 +4,7 @@ ghost use Rattle.spec_bodies.specs.Views.{Fits};
 ghost use Rattle.spec_steps.specs.ColumnTerms.{sight_of};
 ghost use Rattle.body_states.specs.Moments.{IsSingle, IsWrittenAt, formula_point, point_in};
 
-use crate::column_entries::{ColumnEntry, ColumnQuestion};
+use crate::column_entries::ColumnEntry;
 use crate::columns::has_any_axis;
 use crate::single_time::SingleTime;
 use crate::sources::KEPT_COLUMNS;
@@ -12,6 +12,7 @@ use crate::states::BodyStates;
 use column_steps::Arithmetic;
 use event_expr::rules::{TimeSpan, cosine_interval, length_interval};
 use event_expr::{Axes, Formula};
+use granule_values::ColumnQuestion;
 use ival_core::Ival;
 use spec_bodies::{Factor, Quantity};
 use spec_steps::laws::{listed_constants_are_within_limits, listed_enclosures_are_within_limits};

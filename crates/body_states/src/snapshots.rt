@@ -4,12 +4,13 @@ ghost use Rattle.spec_bodies.specs.Views.{Fits};
 ghost use Rattle.spec_steps.specs.ColumnTerms.{sight_of};
 ghost use Rattle.body_states.specs.Moments.{AreMade, meant_in};
 
-use crate::column_entries::{ColumnEntry, ColumnQuestion};
+use crate::column_entries::ColumnEntry;
 use crate::sources::KEPT_COLUMNS;
 use crate::states::BodyStates;
 use column_steps::Arithmetic;
 use event_expr::rules::{TimeSpan, cosine_interval, length_interval};
 use event_expr::{Axes, Leaves};
+use granule_values::ColumnQuestion;
 use ival_core::{Enclosure, Ival};
 use spec_bodies::{Factor, Quantity};
 use spec_steps::Sight;

@@ -2,8 +2,7 @@ use Rattle.std.proofs.Common.{◌∙◌, sym, w64}
 use Rattle.std.proofs.lemmas.Int.{to_z-of_z}
 use Rattle.spec_intervals.specs.Enclosure.{enclosure}
 use Rattle.body_states.specs.Moments.{formula_point}
-use Rattle.body_states.proofs.Alone.{formula_alone}
-use Rattle.body_states.proofs.Sums.{middle_alone}
+use Rattle.body_states.proofs.Alone.{formula_alone, middle_alone}
 use Rattle.body_states.proofs.answers.BodyStatesStates.enclosure.Goals as goal
 
 pub returns-else-has_several : goal.returns-else-has_several

@@ -1,5 +1,5 @@
 use Rattle.std.proofs.Common.{◌∙◌, true, false}
-use Rattle.body_states.specs.Ranges.{series_parts}
+use Rattle.granule_values.specs.Parts.{series_parts}
 use Rattle.body_states.proofs.states.BodyStates.evaluate_column.Goals as goal
 
 pub returns-then-is_centred : goal.returns-then-is_centred

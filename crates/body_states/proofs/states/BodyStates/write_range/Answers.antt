@@ -1,5 +1,5 @@
 use Rattle.std.proofs.Common.{◌∙◌, false}
-use Rattle.body_states.specs.Ranges.{series_parts}
+use Rattle.granule_values.specs.Parts.{series_parts}
 use Rattle.body_states.proofs.Entries.{same_wanted}
 use Rattle.body_states.proofs.states.BodyStates.write_range.Goals as goal
 

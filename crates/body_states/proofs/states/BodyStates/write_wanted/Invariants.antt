@@ -1,5 +1,5 @@
 use Rattle.std.proofs.Common.{◌≡◌, true, length}
-use Rattle.body_states.specs.Bases.{AreKept}
+use Rattle.granule_values.specs.Bases.{AreKept}
 use Rattle.body_states.specs.Ranges.{asked_of}
 use Rattle.body_states.proofs.Entries.{WrittenBefore}
 use Rattle.body_states.proofs.states.BodyStates.write_wanted.Given as goal

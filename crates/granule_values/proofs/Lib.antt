@@ -1,0 +1,3 @@
+pub mod SeriesParts
+pub mod Sums
+pub mod Shared

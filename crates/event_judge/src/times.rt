@@ -51,11 +51,18 @@ impl<'s, 'e> ValidNode<'s, 'e> {
         self.time_at(self.node.b)
     }
 
+    // Returns the time halfway from the first to the last, rounded down.
+    fn middle_time(self) -> i64
+        ensures { result ≡ middle self.entry.node.a self.entry.node.b }
+    {
+        (self.node.a + self.node.b).div_euclid(2)
+    }
+
     /// Returns the time halfway from the node's first time to its last, rounded down.
     pub(crate) fn middle(self) -> SearchTime<'s, 'e>
         ensures search { result.search.now ≡ self.entry.search.now }
         ensures time { result.time ≡ middle self.entry.node.a self.entry.node.b }
     {
-        self.time_at((self.node.a + self.node.b).div_euclid(2))
+        self.time_at(self.middle_time())
     }
 }

@@ -168,9 +168,9 @@ fn found_of_named_search_alone<N: Naming + Send + Sync, J: Judge>(
     }
 }
 
-/// Searches a span of an ephemeris for the events of a query and returns the leaves that are
-/// wanted, with the still spans by which they were found. The header is read for what the call ensures. Errors: the
-/// fault of the event; `TooManyLeaves` if the search has more leaves than `most`; `Memory`.
+/// Searches a span of an ephemeris for the events of a query and returns the leaves that are wanted, with the still
+/// spans by which they were found. The header is read for what the call ensures. Errors: the fault of the event;
+/// `TooManyLeaves` if the search has more leaves than `most`; `Memory`.
 pub(crate) fn found_alone(
     alloc: Global,
     most: u32,

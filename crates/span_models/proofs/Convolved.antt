@@ -1,6 +1,7 @@
 -- How many coefficients a product of two polynomials has, and the sizes of those that are left out.
-use Rattle.std.proofs.Common.{◌≡◌, ℕ, zero, suc, ◌+◌, ◌*◌, ◌<◌, ◌≤◌, arith, refl, List, [], ◌∷◌, length, drop, ℤ, pos, ◌+ℤ◌, ◌*ℤ◌, unsigned_abs}
+use Rattle.std.proofs.Common.{◌≡◌, ◌∙◌, ℕ, zero, suc, ◌+◌, ◌*◌, ◌<◌, ◌≤◌, arith, refl, List, [], ◌∷◌, length, get_or, drop, ℤ, pos, ◌+ℤ◌, ◌*ℤ◌, unsigned_abs}
 use Rattle.std.proofs.lemmas.Int.{ints, unsigned_abs-mul}
+use Rattle.std.proofs.lemmas.List.{at_drop_more}
 use Rattle.spec_models.specs.Models.{added, multiplied, convolved, sizes}
 use Rattle.spec_models.proofs.Lists.{length-multiplied}
 use Rattle.span_models.specs.Columns.{tail_sizes}
@@ -61,3 +62,7 @@ tail-convolved (x ∷ xs) ys (suc n) =
     let m = tail-multiplied (suc n) x ys in
     let h = tail-convolved xs ys n in
     omega (arith, a, m, h)
+
+-- ---- one more coefficient of the first polynomial
+pub tail-step : (xs ys : List ℤ) (i n m : ℕ) → i < length xs → n ≡ suc m → tail_sizes (drop i xs) ys n ≡ unsigned_abs (get_or xs i (pos 0)) * sizes (drop n ys) + tail_sizes (drop (i + 1) xs) ys m
+tail-step xs ys i n m lt e = at_drop_more (λ zs. tail_sizes zs ys n) xs i (pos 0) lt ∙ rw e refl

@@ -1,4 +1,6 @@
 mod Numbers
+mod Filled
+mod Fitting
 mod Convolved
 mod Exponents
 mod Lifting

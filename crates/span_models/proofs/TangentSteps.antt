@@ -1,5 +1,5 @@
 -- The numbers of a tangent, as they are passed on.
-use Rattle.std.proofs.Common.{◌≡◌, ◌∙◌, ◌+◌, ◌*◌, ◌^◌, ◌<◌, ◌≤◌, arith, ℤ, pos, ◌+ℤ◌, ◌-ℤ◌, ◌*ℤ◌, ◌≤ℤ◌, ◌<ℤ◌, unsigned_abs, to_z, of_z, w64}
+use Rattle.std.proofs.Common.{◌≡◌, ◌∙◌, ◌*◌, ◌^◌, ◌<◌, ◌≤◌, arith, ℤ, pos, ◌+ℤ◌, ◌-ℤ◌, ◌*ℤ◌, ◌≤ℤ◌, ◌<ℤ◌, unsigned_abs, to_z, of_z, w64}
 use Rattle.std.proofs.lemmas.Int.{ints, to_z-of_z, unsigned_abs-mul}
 use Rattle.std.proofs.lemmas.Nat.{mul-le}
 use Rattle.std.specs.Int.{int_max}
@@ -36,6 +36,16 @@ value_fits a p h k = omega (arith, ints, h, k)
 pub products_kept : (s t : ℤ) → unsigned_abs s < 2 ^ 118 → unsigned_abs t < 2 ^ 118 → to_z w128 (of_z w128 (to_z w128 (of_z w128 s) +ℤ to_z w128 (of_z w128 t))) ≡ to_z w128 (of_z w128 s) +ℤ to_z w128 (of_z w128 t)
 products_kept s t h k = omega (arith, ints, h, k)
 
+-- a number of 128 bits that is passed on
+wide_kept : (s : ℤ) → unsigned_abs s < 2 ^ 118 → to_z w128 (of_z w128 s) ≡ s
+wide_kept s h = to_z-of_z w128 s (omega (arith, ints, h))
+
+pub products_fit : (s t : ℤ) → unsigned_abs s < 2 ^ 118 → unsigned_abs t < 2 ^ 118 → SFits w128 (to_z w128 (of_z w128 s) +ℤ to_z w128 (of_z w128 t))
+products_fit s t h k = rw (wide_kept s h, wide_kept t k) (omega (arith, ints, h, k))
+
+pub products_small : (s t : ℤ) → unsigned_abs s < 2 ^ 118 → unsigned_abs t < 2 ^ 118 → unsigned_abs (to_z w128 (of_z w128 (to_z w128 (of_z w128 s) +ℤ to_z w128 (of_z w128 t)))) < 2 ^ 119
+products_small s t h k = rw (products_kept s t h k, wide_kept s h, wide_kept t k) (omega (arith, ints, h, k))
+
 -- ---- the middle of two arguments
 module _ (first last q : ℤ) (f : IsArgument first q) (l : IsArgument last q) (ordered : first ≤ℤ last) where
   abbrev middle : ℤ
@@ -69,6 +79,15 @@ half_kept a b f g =
     let l = floor_div-le (a +ℤ b) 2 (omega arith) in
     let h = floor_div-lt (a +ℤ b) 2 (omega arith) in
     omega (arith, ints, l, h, f, g)
+
+pub half_narrow : (a b : ℤ) → SFits w64 a → SFits w64 b → SFits w64 (to_z w128 (of_z w128 (floor_div (a +ℤ b) 2)))
+half_narrow a b f g =
+    let l = floor_div-le (a +ℤ b) 2 (omega arith) in
+    let h = floor_div-lt (a +ℤ b) 2 (omega arith) in
+    omega (arith, ints, l, h, f, g)
+
+pub sum_fits : (a b : ℤ) → SFits w64 a → SFits w64 b → SFits w128 (a +ℤ b)
+sum_fits a b f g = omega (arith, ints, f, g)
 
 pub summed : (a b : ℤ) → SFits w64 a → SFits w64 b → to_z w128 (of_z w128 (to_z w128 (of_z w128 (to_z w64 (of_z w64 a))) +ℤ to_z w128 (of_z w128 (to_z w64 (of_z w64 b))))) ≡ a +ℤ b
 summed a b f g = omega (arith, ints, f, g)

@@ -43,7 +43,7 @@ pub(crate) fn refusal_agrees(
     fields: &mut Fields<'_>,
 ) -> Result<bool, RowError> {
     let ask = next_ask(fields)?;
-    let number = fields.next_number::<u8>()?;
+    let number = fields.next_number::<u8>();
     match event(alloc, ephemeris, &ask) {
         Ok(_) => Ok(false),
         Err(fault) => fault_has_number(fault, number),
@@ -61,12 +61,12 @@ struct ExpectedGuard {
 // Reads what a row expects of a guard: `at_least` or `below`, for a formula that has to be at least 0 or below 0, and
 // the enclosure of that formula.
 fn expected_guard(fields: &mut Fields<'_>) -> Result<ExpectedGuard, RowError> {
-    let at_least = match fields.next_word()? {
+    let at_least = match fields.next_word() {
         "at_least" => true,
         "below" => false,
         _ => return Err(RowError::Malformed),
     };
-    let enclosure = next_enclosure_parts(fields)?;
+    let enclosure = next_enclosure_parts(fields);
     Ok(ExpectedGuard {
         at_least,
         enclosure,
@@ -95,7 +95,7 @@ fn guards_agree(
 ) -> Result<bool, RowError>
     requires { Fits view.states.now view.a view.b }
 {
-    let count = fields.next_number::<usize>()?;
+    let count = fields.next_number::<usize>();
     let mut agree = guards.len() == count;
     for place in 0..count {
         let expected = expected_guard(fields)?;
@@ -113,7 +113,7 @@ fn formulas_agree(
 ) -> Result<bool, RowError>
     requires { Fits view.states.now view.a view.b }
 {
-    let expected = next_enclosure_parts(fields)?;
+    let expected = next_enclosure_parts(fields);
     let is_function = has_enclosure(event.function(), view, &expected);
     let are_guards = guards_agree(event.guards(), view, fields)?;
     Ok(is_function && are_guards)

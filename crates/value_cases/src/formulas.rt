@@ -64,10 +64,10 @@ pub(crate) fn formula_agrees(
     ephemeris: &Ephemeris,
     fields: &mut Fields<'_>,
 ) -> Result<bool, RowError> {
-    let states = states_of_scene(ephemeris, next_scene(fields)?)?;
+    let states = states_of_scene(ephemeris, next_scene(fields))?;
     let (a, b) = next_span(ephemeris, &states, fields)?;
     let formula = next_formula(alloc, fields)?;
-    let expected = next_enclosure_parts(fields)?;
+    let expected = next_enclosure_parts(fields);
     Ok(has_enclosure(
         &formula,
         View {
@@ -93,7 +93,7 @@ fn limit_of_name(name: &str) -> Result<Option<ExprFault>, RowError> {
 /// Compares which limit of formulas an expression passes first: the row has the name of the limit, or `none`, and the
 /// expression.
 pub(crate) fn limit_agrees(alloc: Global, fields: &mut Fields<'_>) -> Result<bool, RowError> {
-    let expected = limit_of_name(fields.next_word()?)?;
+    let expected = limit_of_name(fields.next_word())?;
     match Formula::new(next_expression(alloc, fields)?) {
         Ok(_) => Ok(expected.is_none()),
         Err(fault) => Ok(expected == Some(fault)),

@@ -12,8 +12,8 @@ fn is_token_at(line: &Line<'_>, words: &mut Words<'_>, place: usize, token: &[u8
 // Reads the number of a line, the count of its tokens and the tokens, and tells whether the given line has these and
 // no more.
 fn line_agrees(alloc: Global, fields: &mut Fields<'_>, line: &Line<'_>) -> Result<bool, RowError> {
-    let number = fields.next_number::<u32>()?;
-    let count = fields.next_number::<usize>()?;
+    let number = fields.next_number::<u32>();
+    let count = fields.next_number::<usize>();
     let mut words = line.words();
     let mut agrees = line.number() == number && line.count() == count;
     for place in 0..count {
@@ -27,9 +27,10 @@ fn line_agrees(alloc: Global, fields: &mut Fields<'_>, line: &Line<'_>) -> Resul
 // Takes the number and the tokens of an expected line from the row if the text has no such line, so that the fields
 // after them can still be read. Returns false, since the text differs.
 fn skip_expected_line(fields: &mut Fields<'_>) -> Result<bool, RowError> {
-    let _number = fields.next_number::<u32>()?;
-    for _ in 0..fields.next_number::<usize>()? {
-        let _token = fields.next_word()?;
+    let _number = fields.next_number::<u32>();
+    for _ in 0..fields.next_number::<usize>() {
+        let _token = fields.next_word();
+        fields.check()?;
     }
     Ok(false)
 }
@@ -79,7 +80,7 @@ fn end_agrees(
 ) -> Result<bool, RowError> {
     match kind {
         "end" => Ok(have_lines_ended(tokens) && tokens.end_line() == end),
-        "long" => Ok(stays_at_long_line(tokens, fields.next_number::<u32>()?)),
+        "long" => Ok(stays_at_long_line(tokens, fields.next_number::<u32>())),
         _ => Err(RowError::Malformed),
     }
 }
@@ -94,12 +95,12 @@ fn lines_of_text_agree(
     if text.len() > MAX_TEXT_BYTES {
         return Err(RowError::Malformed);
     }
-    let end = fields.next_number::<u32>()?;
+    let end = fields.next_number::<u32>();
     let mut tokens = Tokens::new(text);
     let mut agrees = tokens.end_line() == end;
     // Each line takes a byte at least, and the end is one row more.
     for _ in 0..=text.len() {
-        match fields.next_word()? {
+        match fields.next_word() {
             "line" => agrees = next_line_agrees(alloc, fields, &tokens.line())? && agrees,
             kind => return Ok(end_agrees(fields, kind, &mut tokens, end)? && agrees),
         }

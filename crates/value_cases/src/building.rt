@@ -39,8 +39,7 @@ fn next_body_number(fields: &mut Fields<'_>) -> Result<Decimal, RowError>
     ensures { IfOk result IsBodyNumber }
 {
     let number = next_decimal(fields);
-    fields.check()?;
-    if number.exp < LEAST_EXPONENT {
+    if fields.is_malformed() || number.exp < LEAST_EXPONENT {
         return Err(RowError::Malformed);
     }
     match rounded(number) {

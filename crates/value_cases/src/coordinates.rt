@@ -81,16 +81,18 @@ fn formula_of_coordinate(c: Coordinate) -> Result<Formula, RowError>
 }
 
 // Reads a count of columns and their numbers, and tells whether the states use exactly these, in this order.
-fn columns_agree(states: &BodyStates<'_>, fields: &mut Fields<'_>) -> Result<bool, RowError> {
+fn columns_agree(states: &BodyStates<'_>, fields: &mut Fields<'_>) -> bool {
     let columns = states.columns();
     let count = fields.next_number::<usize>();
     let mut agree = columns.len() == count;
     for place in 0..count {
         let number = fields.next_number::<usize>();
-        fields.check()?;
+        if fields.is_malformed() {
+            return false;
+        }
         agree = agree && columns.get(place) == Some(&number);
     }
-    Ok(agree)
+    agree
 }
 
 // Reads the enclosure of a coordinate from time `a` to `b`, and tells whether both the states and the formula of the
@@ -118,10 +120,10 @@ pub(crate) fn coordinate_agrees(
     ephemeris: &Ephemeris,
     fields: &mut Fields<'_>,
 ) -> Result<bool, RowError> {
-    let states = states_of_scene(ephemeris, next_scene(fields))?;
+    let scene = next_scene(fields);
     let coordinate = next_coordinate(fields)?;
+    let states = states_of_scene(ephemeris, scene)?;
     let (a, b) = next_span(ephemeris, &states, fields)?;
     let is_coordinate = enclosure_agrees(&states, coordinate, a, b, fields)?;
-    let are_columns = columns_agree(&states, fields)?;
-    Ok(is_coordinate && are_columns)
+    Ok(columns_agree(&states, fields) && is_coordinate)
 }

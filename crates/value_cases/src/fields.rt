@@ -53,13 +53,9 @@ impl<'a> Fields<'a> {
         self.is_malformed = true;
     }
 
-    /// Stops what reads as many fields as the row itself says, if one that was taken is malformed.
-    pub fn check(&self) -> Result<(), RowError> {
-        if self.is_malformed {
-            Err(RowError::Malformed)
-        } else {
-            Ok(())
-        }
+    /// Tells whether a field that was taken is malformed. What reads as many fields as the row itself says stops then.
+    pub fn is_malformed(&self) -> bool {
+        self.is_malformed
     }
 
     /// Takes the next field, and returns it as it stands in the row. If no field is left, the row is malformed, and the

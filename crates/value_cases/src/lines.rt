@@ -25,14 +25,15 @@ fn line_agrees(alloc: Global, fields: &mut Fields<'_>, line: &Line<'_>) -> Resul
 }
 
 // Takes the number and the tokens of an expected line from the row if the text has no such line, so that the fields
-// after them can still be read. Returns false, since the text differs.
-fn skip_expected_line(fields: &mut Fields<'_>) -> Result<bool, RowError> {
+// after them can still be read.
+fn skip_expected_line(fields: &mut Fields<'_>) {
     let _number = fields.next_number::<u32>();
     for _ in 0..fields.next_number::<usize>() {
         let _token = fields.next_word();
-        fields.check()?;
+        if fields.is_malformed() {
+            return;
+        }
     }
-    Ok(false)
 }
 
 // Tells whether the next step of the reader is a line, with the number and the tokens that the next fields have.
@@ -43,7 +44,10 @@ fn next_line_agrees(
 ) -> Result<bool, RowError> {
     match step {
         LineStep::Line(line) => line_agrees(alloc, fields, line),
-        _ => skip_expected_line(fields),
+        _ => {
+            skip_expected_line(fields);
+            Ok(false)
+        }
     }
 }
 
@@ -72,16 +76,14 @@ fn stays_at_long_line(tokens: &mut Tokens<'_>, number: u32) -> bool {
 
 // Tells whether the reader stops as the row says: for `end` the lines have ended, and the line after the last has the
 // number `end`; for `long` a line is too long, whose number is the next field.
-fn end_agrees(
-    fields: &mut Fields<'_>,
-    kind: &str,
-    tokens: &mut Tokens<'_>,
-    end: u32,
-) -> Result<bool, RowError> {
+fn end_agrees(fields: &mut Fields<'_>, kind: &str, tokens: &mut Tokens<'_>, end: u32) -> bool {
     match kind {
-        "end" => Ok(have_lines_ended(tokens) && tokens.end_line() == end),
-        "long" => Ok(stays_at_long_line(tokens, fields.next_number::<u32>())),
-        _ => Err(RowError::Malformed),
+        "end" => have_lines_ended(tokens) && tokens.end_line() == end,
+        "long" => stays_at_long_line(tokens, fields.next_number::<u32>()),
+        _ => {
+            fields.refuse();
+            false
+        }
     }
 }
 
@@ -102,7 +104,7 @@ fn lines_of_text_agree(
     for _ in 0..=text.len() {
         match fields.next_word() {
             "line" => agrees = next_line_agrees(alloc, fields, &tokens.line())? && agrees,
-            kind => return Ok(end_agrees(fields, kind, &mut tokens, end)? && agrees),
+            kind => return Ok(end_agrees(fields, kind, &mut tokens, end) && agrees),
         }
     }
     Err(RowError::Malformed)

@@ -15,15 +15,15 @@ pub(crate) fn next_ask(fields: &mut Fields<'_>) -> Result<Ask, RowError>
     ensures { IfOk result IsAsk }
 {
     let ask = Ask {
-        kind: next_kind(fields)?,
-        target: next_body(fields)?,
-        second: next_second_body(fields)?,
-        observer: next_body(fields)?,
-        frame: next_frame(fields)?,
-        axis: fields.next_number::<u8>()?,
-        value1: next_decimal(fields)?,
-        value2: next_decimal(fields)?,
-        dir: next_direction(fields)?,
+        kind: next_kind(fields),
+        target: next_body(fields),
+        second: next_second_body(fields),
+        observer: next_body(fields),
+        frame: next_frame(fields),
+        axis: fields.next_number::<u8>(),
+        value1: next_decimal(fields),
+        value2: next_decimal(fields),
+        dir: next_direction(fields),
     };
     if is_ask(&ask) {
         Ok(ask)

@@ -33,9 +33,9 @@ fn argument_of_one_time(u: i64, seconds: i64) -> Ends
 /// granule's seconds, and the ends of the interval of arguments. For a span of one time the argument of that time
 /// alone is compared too.
 pub(crate) fn argument_agrees(fields: &mut Fields<'_>) -> Result<bool, RowError> {
-    let (ua, ub) = next_pair(fields)?;
-    let seconds = fields.next_number::<i64>()?;
-    let expected = next_pair(fields)?;
+    let (ua, ub) = next_pair(fields);
+    let seconds = fields.next_number::<i64>();
+    let expected = next_pair(fields);
     if seconds < 1 || ua < -seconds || ub < ua || seconds < ub {
         return Err(RowError::Malformed);
     }
@@ -48,7 +48,7 @@ pub(crate) fn argument_agrees(fields: &mut Fields<'_>) -> Result<bool, RowError>
 fn next_arguments(fields: &mut Fields<'_>) -> Result<Ival62, RowError>
     ensures { IfOk result IsArguments }
 {
-    let (lo, hi) = next_pair(fields)?;
+    let (lo, hi) = next_pair(fields);
     if lo < -ONE || hi < lo || ONE < hi {
         return Err(RowError::Malformed);
     }
@@ -99,13 +99,13 @@ fn entries_at(basis: &Basis, k: usize) -> [Ends; 4]
 }
 
 // Reads the ends that a row expects of one entry of each of the four rows of a basis: t, u, q and r.
-fn expected_entries(fields: &mut Fields<'_>) -> Result<[Ends; 4], RowError> {
-    Ok([
-        next_pair(fields)?,
-        next_pair(fields)?,
-        next_pair(fields)?,
-        next_pair(fields)?,
-    ])
+fn expected_entries(fields: &mut Fields<'_>) -> [Ends; 4] {
+    [
+        next_pair(fields),
+        next_pair(fields),
+        next_pair(fields),
+        next_pair(fields),
+    ]
 }
 
 // Tells whether the four rows of a basis over the arguments `x`, up to `n` entries, have the expected entries at place
@@ -124,9 +124,9 @@ fn rows_have_entries(x: Ival62, n: usize, k: usize, expected: &[Ends; 4]) -> boo
 /// of the entries of the four rows at this place.
 pub(crate) fn basis_agrees(fields: &mut Fields<'_>) -> Result<bool, RowError> {
     let x = next_arguments(fields)?;
-    let n = fields.next_number::<usize>()?;
-    let k = fields.next_number::<usize>()?;
-    let expected = expected_entries(fields)?;
+    let n = fields.next_number::<usize>();
+    let k = fields.next_number::<usize>();
+    let expected = expected_entries(fields);
     if k >= n || n > MAX_ENTRIES {
         return Err(RowError::Malformed);
     }

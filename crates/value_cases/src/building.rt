@@ -38,8 +38,8 @@ fn ephemeris_without_blocks(alloc: Global, ephemeris: &Ephemeris) -> Result<Ephe
 fn next_body_number(fields: &mut Fields<'_>) -> Result<Decimal, RowError>
     ensures { IfOk result IsBodyNumber }
 {
-    let number = next_decimal(fields)?;
-    if number.exp < LEAST_EXPONENT {
+    let number = next_decimal(fields);
+    if fields.is_malformed() || number.exp < LEAST_EXPONENT {
         return Err(RowError::Malformed);
     }
     match rounded(number) {
@@ -99,7 +99,7 @@ fn built_ephemeris(
     fields: &mut Fields<'_>,
 ) -> Result<Ephemeris, RowError> {
     let mut ephemeris = ephemeris_without_blocks(alloc, from)?;
-    for _ in 0..fields.next_number::<u32>()? {
+    for _ in 0..fields.next_number::<u32>() {
         add_next_block(alloc, &mut ephemeris, fields)?;
     }
     Ok(ephemeris)
@@ -112,7 +112,7 @@ pub(crate) fn built_ephemeris_agrees(
     rt: &HostRuntime,
     fields: &mut Fields<'_>,
 ) -> Result<bool, RowError> {
-    let from = ephemeris_of_file(rt, fields.next_word()?)?;
+    let from = ephemeris_of_file(rt, fields.next_word())?;
     let ephemeris = built_ephemeris(rt.alloc(), &from, fields)?;
     granule_of_column_agrees(&ephemeris, fields)
 }

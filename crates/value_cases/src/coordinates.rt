@@ -39,9 +39,9 @@ fn next_coordinate(fields: &mut Fields<'_>) -> Result<Coordinate, RowError>
     ensures target { IfOk result (λ c. c.target < 2) }
     ensures axis { IfOk result (λ c. c.axis < 3) }
 {
-    let quantity = quantity_of_name(fields.next_word()?)?;
-    let target = fields.next_number::<u8>()?;
-    let axis = fields.next_number::<u8>()?;
+    let quantity = quantity_of_name(fields.next_word())?;
+    let target = fields.next_number::<u8>();
+    let axis = fields.next_number::<u8>();
     if target < TARGETS && axis < AXES {
         Ok(Coordinate {
             quantity,
@@ -81,15 +81,18 @@ fn formula_of_coordinate(c: Coordinate) -> Result<Formula, RowError>
 }
 
 // Reads a count of columns and their numbers, and tells whether the states use exactly these, in this order.
-fn columns_agree(states: &BodyStates<'_>, fields: &mut Fields<'_>) -> Result<bool, RowError> {
+fn columns_agree(states: &BodyStates<'_>, fields: &mut Fields<'_>) -> bool {
     let columns = states.columns();
-    let count = fields.next_number::<usize>()?;
+    let count = fields.next_number::<usize>();
     let mut agree = columns.len() == count;
     for place in 0..count {
-        let number = fields.next_number::<usize>()?;
+        let number = fields.next_number::<usize>();
+        if fields.is_malformed() {
+            return false;
+        }
         agree = agree && columns.get(place) == Some(&number);
     }
-    Ok(agree)
+    agree
 }
 
 // Reads the enclosure of a coordinate from time `a` to `b`, and tells whether both the states and the formula of the
@@ -105,7 +108,7 @@ fn enclosure_agrees(
     requires axis { c.axis < 3 }
     requires fits { Fits states.now a b }
 {
-    let expected = next_enclosure_parts(fields)?;
+    let expected = next_enclosure_parts(fields);
     let is_given = enclosure_by_states(states, c, a, b) == expected;
     let formula = formula_of_coordinate(c)?;
     Ok(has_enclosure(&formula, View { states, a, b }, &expected) && is_given)
@@ -117,10 +120,10 @@ pub(crate) fn coordinate_agrees(
     ephemeris: &Ephemeris,
     fields: &mut Fields<'_>,
 ) -> Result<bool, RowError> {
-    let states = states_of_scene(ephemeris, next_scene(fields)?)?;
+    let scene = next_scene(fields);
     let coordinate = next_coordinate(fields)?;
+    let states = states_of_scene(ephemeris, scene)?;
     let (a, b) = next_span(ephemeris, &states, fields)?;
     let is_coordinate = enclosure_agrees(&states, coordinate, a, b, fields)?;
-    let are_columns = columns_agree(&states, fields)?;
-    Ok(is_coordinate && are_columns)
+    Ok(columns_agree(&states, fields) && is_coordinate)
 }

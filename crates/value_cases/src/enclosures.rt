@@ -1,5 +1,5 @@
 // Enclosures, as the nine numbers that rows have.
-use crate::fields::{Fields, RowError};
+use crate::fields::Fields;
 use crate::parts::{Parts, next_interval_parts};
 use ival_core::Enclosure;
 
@@ -7,11 +7,11 @@ use ival_core::Enclosure;
 pub(crate) type EnclosureParts = [Parts; 3];
 
 /// Reads the nine numbers of an enclosure: the three of each of its intervals mid, range and step.
-pub(crate) fn next_enclosure_parts(fields: &mut Fields<'_>) -> Result<EnclosureParts, RowError> {
-    let mid = next_interval_parts(fields)?;
-    let range = next_interval_parts(fields)?;
-    let step = next_interval_parts(fields)?;
-    Ok([mid, range, step])
+pub(crate) fn next_enclosure_parts(fields: &mut Fields<'_>) -> EnclosureParts {
+    let mid = next_interval_parts(fields);
+    let range = next_interval_parts(fields);
+    let step = next_interval_parts(fields);
+    [mid, range, step]
 }
 
 /// Returns the nine numbers of an enclosure that the code made, in the order in which rows have them: mid, range and

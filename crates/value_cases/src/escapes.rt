@@ -2,55 +2,69 @@
 use crate::fields::RowError;
 use std::alloc::Global;
 
-// What was read before a byte: nothing of an escape, its `%`, or its first digit.
+// What was read before a byte: nothing of an escape, its `%`, its first digit, or a byte that no escape may have.
 #[derive(Clone, Copy)]
 enum EscapeState {
     Plain,
     AfterPercent,
     AfterDigit(u8),
+    Malformed,
 }
 
-// Returns the value, 0 to 15, of a hexadecimal digit, whose letters are capitals. Any other byte is malformed.
-fn hex_digit_value(byte: u8) -> Result<u8, RowError> {
+// The state after a byte of a field, and the byte that is complete with it, if any.
+type Step = (EscapeState, Option<u8>);
+
+// Returns the value, 0 to 15, of a hexadecimal digit, whose letters are capitals. None for any other byte.
+fn hex_digit_value(byte: u8) -> Option<u8> {
     match byte {
-        b'0'..=b'9' => Ok(byte - b'0'),
-        b'A'..=b'F' => Ok(byte - b'A' + 10),
-        _ => Err(RowError::Malformed),
+        b'0'..=b'9' => Some(byte - b'0'),
+        b'A'..=b'F' => Some(byte - b'A' + 10),
+        _ => None,
     }
 }
 
-// Takes a byte of a field that is not part of an escape: adds a blank for `~`, nothing for `%`, which begins an
-// escape, and any other byte as it is. Returns the state after the byte.
-fn add_plain_byte(bytes: &mut Vec<u8>, byte: u8) -> Result<EscapeState, RowError> {
+// Takes a byte of a field that is not part of an escape: a blank is complete with `~`, nothing with `%`, which begins
+// an escape, and any other byte as it is.
+fn step_of_plain_byte(byte: u8) -> Step {
     match byte {
-        b'%' => Ok(EscapeState::AfterPercent),
-        b'~' => {
-            bytes.push(b' ')?;
-            Ok(EscapeState::Plain)
-        }
-        _ => {
-            bytes.push(byte)?;
-            Ok(EscapeState::Plain)
-        }
+        b'%' => (EscapeState::AfterPercent, None),
+        b'~' => (EscapeState::Plain, Some(b' ')),
+        _ => (EscapeState::Plain, Some(byte)),
     }
 }
 
-// Takes the next byte of a field, and adds to `bytes` the byte that it completes, if any: after `%` two hexadecimal
-// digits make one byte. Returns the state after the byte.
-fn add_byte(bytes: &mut Vec<u8>, place: EscapeState, byte: u8) -> Result<EscapeState, RowError> {
+// Takes the first digit of an escape.
+fn step_of_first_digit(byte: u8) -> Step {
+    match hex_digit_value(byte) {
+        Some(high) => (EscapeState::AfterDigit(high), None),
+        None => (EscapeState::Malformed, None),
+    }
+}
+
+// Takes the second digit of an escape, with which its byte is complete.
+fn step_of_second_digit(high: u8, byte: u8) -> Step {
+    match hex_digit_value(byte) {
+        Some(low) => (
+            EscapeState::Plain,
+            Some(high.wrapping_mul(16).wrapping_add(low)),
+        ),
+        None => (EscapeState::Malformed, None),
+    }
+}
+
+// Takes the next byte of a field: after `%` two hexadecimal digits make one byte.
+fn step_of_byte(place: EscapeState, byte: u8) -> Step {
     match place {
-        EscapeState::Plain => add_plain_byte(bytes, byte),
-        EscapeState::AfterPercent => Ok(EscapeState::AfterDigit(hex_digit_value(byte)?)),
-        EscapeState::AfterDigit(high) => {
-            bytes.push(high.wrapping_mul(16).wrapping_add(hex_digit_value(byte)?))?;
-            Ok(EscapeState::Plain)
-        }
+        EscapeState::Plain => step_of_plain_byte(byte),
+        EscapeState::AfterPercent => step_of_first_digit(byte),
+        EscapeState::AfterDigit(high) => step_of_second_digit(high, byte),
+        EscapeState::Malformed => (EscapeState::Malformed, None),
     }
 }
 
 /// Returns the bytes that a field stands for: `~` is a blank, `%` with two hexadecimal digits is the byte of that
-/// number, `%` alone is no byte at all, and each other byte is itself. A field that ends within an escape is
-/// malformed.
+/// number, `%` alone is no byte at all, and each other byte is itself. A field with a `%` that is followed by anything
+/// else, or that ends within an escape, is malformed.
 pub(crate) fn unescaped_bytes(alloc: Global, field: &str) -> Result<Vec<u8>, RowError> {
     let mut bytes = Vec::new(alloc);
     if field == "%" {
@@ -58,7 +72,11 @@ pub(crate) fn unescaped_bytes(alloc: Global, field: &str) -> Result<Vec<u8>, Row
     }
     let mut place = EscapeState::Plain;
     for &byte in field.as_bytes() {
-        place = add_byte(&mut bytes, place, byte)?;
+        let (next, complete) = step_of_byte(place, byte);
+        place = next;
+        if let Some(byte) = complete {
+            bytes.push(byte)?;
+        }
     }
     match place {
         EscapeState::Plain => Ok(bytes),

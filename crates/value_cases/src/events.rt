@@ -43,7 +43,7 @@ pub(crate) fn refusal_agrees(
     fields: &mut Fields<'_>,
 ) -> Result<bool, RowError> {
     let ask = next_ask(fields)?;
-    let number = fields.next_number::<u8>()?;
+    let number = fields.next_number::<u8>();
     match event(alloc, ephemeris, &ask) {
         Ok(_) => Ok(false),
         Err(fault) => fault_has_number(fault, number),
@@ -60,17 +60,17 @@ struct ExpectedGuard {
 
 // Reads what a row expects of a guard: `at_least` or `below`, for a formula that has to be at least 0 or below 0, and
 // the enclosure of that formula.
-fn expected_guard(fields: &mut Fields<'_>) -> Result<ExpectedGuard, RowError> {
-    let at_least = match fields.next_word()? {
-        "at_least" => true,
-        "below" => false,
-        _ => return Err(RowError::Malformed),
-    };
-    let enclosure = next_enclosure_parts(fields)?;
-    Ok(ExpectedGuard {
+fn expected_guard(fields: &mut Fields<'_>) -> ExpectedGuard {
+    let side = fields.next_word();
+    let at_least = side == "at_least";
+    if !at_least && side != "below" {
+        fields.refuse();
+    }
+    let enclosure = next_enclosure_parts(fields);
+    ExpectedGuard {
         at_least,
         enclosure,
-    })
+    }
 }
 
 // Tells whether there is a guard, and it has the expected side and enclosure over the times of the view.
@@ -88,35 +88,29 @@ fn guard_agrees(guard: Option<&Guard>, view: View<'_, '_>, expected: &ExpectedGu
 
 // Reads a count of guards and what is expected of each, and tells whether the given guards are as many and agree in
 // this order.
-fn guards_agree(
-    guards: &[Guard],
-    view: View<'_, '_>,
-    fields: &mut Fields<'_>,
-) -> Result<bool, RowError>
+fn guards_agree(guards: &[Guard], view: View<'_, '_>, fields: &mut Fields<'_>) -> bool
     requires { Fits view.states.now view.a view.b }
 {
-    let count = fields.next_number::<usize>()?;
+    let count = fields.next_number::<usize>();
     let mut agree = guards.len() == count;
     for place in 0..count {
-        let expected = expected_guard(fields)?;
+        let expected = expected_guard(fields);
+        if fields.is_malformed() {
+            return false;
+        }
         agree = guard_agrees(guards.get(place), view, &expected) && agree;
     }
-    Ok(agree)
+    agree
 }
 
 // Reads the enclosure of a function and those of guards, and tells whether the function and the guards of the event
 // have them over the times of the view.
-fn formulas_agree(
-    event: &Event,
-    view: View<'_, '_>,
-    fields: &mut Fields<'_>,
-) -> Result<bool, RowError>
+fn formulas_agree(event: &Event, view: View<'_, '_>, fields: &mut Fields<'_>) -> bool
     requires { Fits view.states.now view.a view.b }
 {
-    let expected = next_enclosure_parts(fields)?;
+    let expected = next_enclosure_parts(fields);
     let is_function = has_enclosure(event.function(), view, &expected);
-    let are_guards = guards_agree(event.guards(), view, fields)?;
-    Ok(is_function && are_guards)
+    guards_agree(event.guards(), view, fields) && is_function
 }
 
 // Reads what a row expects of the event of an ask: the first and the last time, the enclosure of its function, and its
@@ -137,7 +131,7 @@ fn meaning_agrees(
             b,
         },
         fields,
-    )?;
+    );
     Ok(are_formulas && event.dir() == ask.dir)
 }
 

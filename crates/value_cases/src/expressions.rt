@@ -33,7 +33,7 @@ enum Operation {
 fn vector_of_quantity(quantity: &str, fields: &mut Fields<'_>) -> Result<Vector, RowError>
     ensures { IfOk result IsVector }
 {
-    let target = fields.next_number::<u8>()?;
+    let target = fields.next_number::<u8>();
     if target >= TARGETS {
         return Err(RowError::Malformed);
     }
@@ -48,7 +48,7 @@ fn vector_of_quantity(quantity: &str, fields: &mut Fields<'_>) -> Result<Vector,
 fn next_axis(fields: &mut Fields<'_>) -> Result<u8, RowError>
     ensures { IfOk result (λ axis. axis < 3) }
 {
-    let axis = fields.next_number::<u8>()?;
+    let axis = fields.next_number::<u8>();
     if axis < AXES {
         Ok(axis)
     } else {
@@ -60,7 +60,7 @@ fn next_axis(fields: &mut Fields<'_>) -> Result<u8, RowError>
 fn next_vector(fields: &mut Fields<'_>) -> Result<Vector, RowError>
     ensures { IfOk result IsVector }
 {
-    vector_of_quantity(fields.next_word()?, fields)
+    vector_of_quantity(fields.next_word(), fields)
 }
 
 // Reads two vectors, and returns the expression of their dot product.
@@ -82,9 +82,9 @@ fn rest_of_simple_expression(
     ensures { IfOk result (λ expr. HasLeaves (term expr)) }
 {
     match word {
-        "length" => Ok(length(next_decimal(fields)?)),
-        "cosine" => Ok(cosine(next_decimal(fields)?)),
-        "squared_length" => Ok(squared_length(alloc, next_decimal(fields)?)?),
+        "length" => Ok(length(next_decimal(fields))),
+        "cosine" => Ok(cosine(next_decimal(fields))),
+        "squared_length" => Ok(squared_length(alloc, next_decimal(fields))?),
         "dot" => next_dot_product(alloc, fields),
         _ => {
             let vector = vector_of_quantity(word, fields)?;
@@ -133,7 +133,7 @@ fn next_expression_within(
     if room == 0 {
         return Err(RowError::Malformed);
     }
-    let word = fields.next_word()?;
+    let word = fields.next_word();
     if word == "signed_square" {
         let x = next_expression_within(alloc, fields, room - 1)?;
         return Ok(signed_square(alloc, x)?);

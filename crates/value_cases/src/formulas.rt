@@ -64,10 +64,10 @@ pub(crate) fn formula_agrees(
     ephemeris: &Ephemeris,
     fields: &mut Fields<'_>,
 ) -> Result<bool, RowError> {
-    let states = states_of_scene(ephemeris, next_scene(fields)?)?;
+    let states = states_of_scene(ephemeris, next_scene(fields))?;
     let (a, b) = next_span(ephemeris, &states, fields)?;
     let formula = next_formula(alloc, fields)?;
-    let expected = next_enclosure_parts(fields)?;
+    let expected = next_enclosure_parts(fields);
     Ok(has_enclosure(
         &formula,
         View {
@@ -79,21 +79,24 @@ pub(crate) fn formula_agrees(
     ))
 }
 
-// Returns the limit of formulas that has this name, or none for `none`. Any other word is malformed.
-fn limit_of_name(name: &str) -> Result<Option<ExprFault>, RowError> {
-    match name {
-        "none" => Ok(None),
-        "nodes" => Ok(Some(ExprFault::Nodes)),
-        "degree" => Ok(Some(ExprFault::Degree)),
-        "constant" => Ok(Some(ExprFault::Constant)),
-        _ => Err(RowError::Malformed),
+// Reads the name of a limit of formulas, and returns the limit, or none for `none`. Any other word is malformed.
+fn next_limit(fields: &mut Fields<'_>) -> Option<ExprFault> {
+    match fields.next_word() {
+        "none" => None,
+        "nodes" => Some(ExprFault::Nodes),
+        "degree" => Some(ExprFault::Degree),
+        "constant" => Some(ExprFault::Constant),
+        _ => {
+            fields.refuse();
+            None
+        }
     }
 }
 
 /// Compares which limit of formulas an expression passes first: the row has the name of the limit, or `none`, and the
 /// expression.
 pub(crate) fn limit_agrees(alloc: Global, fields: &mut Fields<'_>) -> Result<bool, RowError> {
-    let expected = limit_of_name(fields.next_word()?)?;
+    let expected = next_limit(fields);
     match Formula::new(next_expression(alloc, fields)?) {
         Ok(_) => Ok(expected.is_none()),
         Err(fault) => Ok(expected == Some(fault)),

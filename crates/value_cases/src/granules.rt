@@ -8,27 +8,17 @@ use crate::texts::ephemeris_of_file;
 use eph_model::Ephemeris;
 use spec_text::Decimal;
 
-// What is known of a granule: its first time, its length in seconds, the number of coefficients of each component,
+// What is known of a granule: its first time and its length in seconds, the number of coefficients of each component,
 // the number of components, and the first coefficient.
-#[derive(Clone, Copy, PartialEq, Eq)]
-struct Shape {
-    start: i64,
-    seconds: i64,
-    coefficients: usize,
-    components: usize,
-    first: Decimal,
-}
+type Shape = ((i64, i64), usize, usize, Decimal);
 
-// Reads what a row expects of a granule: its first time, its seconds, the coefficients of a component, the number of
-// components, and the first coefficient.
-fn expected_shape(fields: &mut Fields<'_>) -> Result<Shape, RowError> {
-    Ok(Shape {
-        start: fields.next_number::<i64>()?,
-        seconds: fields.next_number::<i64>()?,
-        coefficients: fields.next_number::<usize>()?,
-        components: fields.next_number::<usize>()?,
-        first: next_decimal(fields)?,
-    })
+// Reads what a row expects of a granule.
+fn expected_shape(fields: &mut Fields<'_>) -> Shape {
+    let start_and_seconds = next_pair(fields);
+    let coefficients = fields.next_number::<usize>();
+    let components = fields.next_number::<usize>();
+    let first = next_decimal(fields);
+    (start_and_seconds, coefficients, components, first)
 }
 
 // Returns what rows have of the granule of a column that holds a time. The ephemeris has this column and a block at
@@ -42,13 +32,12 @@ fn shape_of_granule_at(ephemeris: &Ephemeris, column: usize, t: i64) -> Result<S
     }
     let granule = ephemeris.granule(column, t);
     match granule.coefs.first() {
-        Some(first) => Ok(Shape {
-            start: granule.start,
-            seconds: granule.seconds,
-            coefficients: granule.n,
-            components: granule.comps,
-            first: *first,
-        }),
+        Some(first) => Ok((
+            (granule.start, granule.seconds),
+            granule.n,
+            granule.comps,
+            *first,
+        )),
         None => Err(RowError::Malformed),
     }
 }
@@ -75,21 +64,21 @@ pub(crate) fn granule_of_column_agrees(
     ephemeris: &Ephemeris,
     fields: &mut Fields<'_>,
 ) -> Result<bool, RowError> {
-    let column = fields.next_number::<usize>()?;
+    let column = fields.next_number::<usize>();
     if ephemeris.blocks() == 0 || !ephemeris.has(column) {
         return Err(RowError::Malformed);
     }
-    let shape = shape_of_granule_at(ephemeris, column, fields.next_number::<i64>()?)?;
-    let expected = expected_shape(fields)?;
-    let (a, b) = next_pair(fields)?;
+    let shape = shape_of_granule_at(ephemeris, column, fields.next_number::<i64>())?;
+    let expected = expected_shape(fields);
+    let (a, b) = next_pair(fields);
     let border = border_in_span(ephemeris, column, a, b)?;
-    let is_border = fields.next_number_or_none::<i64>()? == border;
+    let is_border = fields.next_number_or_none::<i64>() == border;
     Ok(is_border && shape == expected)
 }
 
 /// Compares a granule: the row has the file of an ephemeris, a column and a time, what is known of the granule there,
 /// a span, and the border of the column that is nearest to the middle of the span, or `none`.
 pub(crate) fn granule_agrees(rt: &HostRuntime, fields: &mut Fields<'_>) -> Result<bool, RowError> {
-    let ephemeris = ephemeris_of_file(rt, fields.next_word()?)?;
+    let ephemeris = ephemeris_of_file(rt, fields.next_word())?;
     granule_of_column_agrees(&ephemeris, fields)
 }

@@ -12,8 +12,8 @@ fn is_token_at(line: &Line<'_>, words: &mut Words<'_>, place: usize, token: &[u8
 // Reads the number of a line, the count of its tokens and the tokens, and tells whether the given line has these and
 // no more.
 fn line_agrees(alloc: Global, fields: &mut Fields<'_>, line: &Line<'_>) -> Result<bool, RowError> {
-    let number = fields.next_number::<u32>()?;
-    let count = fields.next_number::<usize>()?;
+    let number = fields.next_number::<u32>();
+    let count = fields.next_number::<usize>();
     let mut words = line.words();
     let mut agrees = line.number() == number && line.count() == count;
     for place in 0..count {
@@ -25,13 +25,15 @@ fn line_agrees(alloc: Global, fields: &mut Fields<'_>, line: &Line<'_>) -> Resul
 }
 
 // Takes the number and the tokens of an expected line from the row if the text has no such line, so that the fields
-// after them can still be read. Returns false, since the text differs.
-fn skip_expected_line(fields: &mut Fields<'_>) -> Result<bool, RowError> {
-    let _number = fields.next_number::<u32>()?;
-    for _ in 0..fields.next_number::<usize>()? {
-        let _token = fields.next_word()?;
+// after them can still be read.
+fn skip_expected_line(fields: &mut Fields<'_>) {
+    let _number = fields.next_number::<u32>();
+    for _ in 0..fields.next_number::<usize>() {
+        let _token = fields.next_word();
+        if fields.is_malformed() {
+            return;
+        }
     }
-    Ok(false)
 }
 
 // Tells whether the next step of the reader is a line, with the number and the tokens that the next fields have.
@@ -42,7 +44,10 @@ fn next_line_agrees(
 ) -> Result<bool, RowError> {
     match step {
         LineStep::Line(line) => line_agrees(alloc, fields, line),
-        _ => skip_expected_line(fields),
+        _ => {
+            skip_expected_line(fields);
+            Ok(false)
+        }
     }
 }
 
@@ -71,16 +76,14 @@ fn stays_at_long_line(tokens: &mut Tokens<'_>, number: u32) -> bool {
 
 // Tells whether the reader stops as the row says: for `end` the lines have ended, and the line after the last has the
 // number `end`; for `long` a line is too long, whose number is the next field.
-fn end_agrees(
-    fields: &mut Fields<'_>,
-    kind: &str,
-    tokens: &mut Tokens<'_>,
-    end: u32,
-) -> Result<bool, RowError> {
+fn end_agrees(fields: &mut Fields<'_>, kind: &str, tokens: &mut Tokens<'_>, end: u32) -> bool {
     match kind {
-        "end" => Ok(have_lines_ended(tokens) && tokens.end_line() == end),
-        "long" => Ok(stays_at_long_line(tokens, fields.next_number::<u32>()?)),
-        _ => Err(RowError::Malformed),
+        "end" => have_lines_ended(tokens) && tokens.end_line() == end,
+        "long" => stays_at_long_line(tokens, fields.next_number::<u32>()),
+        _ => {
+            fields.refuse();
+            false
+        }
     }
 }
 
@@ -94,14 +97,14 @@ fn lines_of_text_agree(
     if text.len() > MAX_TEXT_BYTES {
         return Err(RowError::Malformed);
     }
-    let end = fields.next_number::<u32>()?;
+    let end = fields.next_number::<u32>();
     let mut tokens = Tokens::new(text);
     let mut agrees = tokens.end_line() == end;
     // Each line takes a byte at least, and the end is one row more.
     for _ in 0..=text.len() {
-        match fields.next_word()? {
+        match fields.next_word() {
             "line" => agrees = next_line_agrees(alloc, fields, &tokens.line())? && agrees,
-            kind => return Ok(end_agrees(fields, kind, &mut tokens, end)? && agrees),
+            kind => return Ok(end_agrees(fields, kind, &mut tokens, end) && agrees),
         }
     }
     Err(RowError::Malformed)

@@ -34,7 +34,7 @@ fn next_coefficients(
         return Err(RowError::Malformed);
     }
     for _ in 0..COMPONENTS * n {
-        coefs.push(next_decimal(fields)?)?;
+        coefs.push(next_decimal(fields))?;
     }
     Ok(coefs)
 }
@@ -98,28 +98,28 @@ struct Scope {
 
 // Reads a granule without its coefficients, an axis and a span: the granule's first time and seconds, the coefficients
 // of a component, the number of the axis, and the first and the last time.
-fn next_scope(fields: &mut Fields<'_>) -> Result<Scope, RowError> {
-    let (start, seconds) = next_pair(fields)?;
-    let n = fields.next_number::<usize>()?;
-    let axis = fields.next_number::<usize>()?;
-    let (a, b) = next_pair(fields)?;
-    Ok(Scope {
+fn next_scope(fields: &mut Fields<'_>) -> Scope {
+    let (start, seconds) = next_pair(fields);
+    let n = fields.next_number::<usize>();
+    let axis = fields.next_number::<usize>();
+    let (a, b) = next_pair(fields);
+    Scope {
         start,
         seconds,
         n,
         axis,
         a,
         b,
-    })
+    }
 }
 
 // Reads the four intervals that a row expects: of the position, of its step, of the velocity and of its step.
-fn expected_ranges(fields: &mut Fields<'_>) -> Result<[Parts; 4], RowError> {
-    let position = next_interval_parts(fields)?;
-    let position_step = next_interval_parts(fields)?;
-    let velocity = next_interval_parts(fields)?;
-    let velocity_step = next_interval_parts(fields)?;
-    Ok([position, position_step, velocity, velocity_step])
+fn expected_ranges(fields: &mut Fields<'_>) -> [Parts; 4] {
+    let position = next_interval_parts(fields);
+    let position_step = next_interval_parts(fields);
+    let velocity = next_interval_parts(fields);
+    let velocity_step = next_interval_parts(fields);
+    [position, position_step, velocity, velocity_step]
 }
 
 // Returns the intervals of the position, of its step, of the velocity and of its step over the axis and the span of a
@@ -145,8 +145,8 @@ fn ranges_of_scope(
 /// a span, the coefficients of all three axes, and the intervals of the position, of its step, of the velocity and of
 /// its step. A step is the change from one time to the next.
 pub(crate) fn ranges_agree(alloc: Global, fields: &mut Fields<'_>) -> Result<bool, RowError> {
-    let scope = next_scope(fields)?;
+    let scope = next_scope(fields);
     let coefs = next_coefficients(alloc, fields, scope.n)?;
     let found = ranges_of_scope(alloc, &scope, &coefs)?;
-    Ok(expected_ranges(fields)? == found)
+    Ok(expected_ranges(fields) == found)
 }

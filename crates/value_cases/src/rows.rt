@@ -41,14 +41,14 @@ fn fields_agree_in_file(
     kind: &str,
     fields: &mut Fields<'_>,
 ) -> Result<bool, RowError> {
-    let ephemeris = ephemeris_of_file(rt, fields.next_word()?)?;
+    let ephemeris = ephemeris_of_file(rt, fields.next_word())?;
     fields_agree_over_ephemeris(rt.alloc(), &ephemeris, kind, fields)
 }
 
 /// Takes the fields of a row, the first of which names the kind of the row, and tells whether the code gives the
 /// values that the row expects. A row that cannot be read is malformed.
 pub fn fields_agree(rt: &HostRuntime, fields: &mut Fields<'_>) -> Result<bool, RowError> {
-    match fields.next_word()? {
+    match fields.next_word() {
         "argument" => argument_agrees(fields),
         "basis" => basis_agrees(fields),
         "built" => built_ephemeris_agrees(rt, fields),

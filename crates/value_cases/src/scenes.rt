@@ -22,12 +22,12 @@ pub(crate) struct Scene {
 }
 
 /// Reads a scene: two targets, the observer and the frame.
-pub(crate) fn next_scene(fields: &mut Fields<'_>) -> Result<Scene, RowError> {
-    Ok(Scene {
-        targets: [next_body(fields)?, next_body(fields)?],
-        observer: next_body(fields)?,
-        frame: next_frame(fields)?,
-    })
+pub(crate) fn next_scene(fields: &mut Fields<'_>) -> Scene {
+    Scene {
+        targets: [next_body(fields), next_body(fields)],
+        observer: next_body(fields),
+        frame: next_frame(fields),
+    }
 }
 
 // Tells whether the ephemeris has all columns from which the states of a body are computed.
@@ -100,7 +100,7 @@ pub(crate) fn next_span(
     requires { states.now.ephemeris ≡ ephemeris.now }
     ensures { IfOk result (λ span. Fits states.now span.0 span.1) }
 {
-    let (a, b) = next_pair(fields)?;
+    let (a, b) = next_pair(fields);
     if a < ephemeris.start() || b < a || ephemeris.end() < b {
         return Err(RowError::Malformed);
     }

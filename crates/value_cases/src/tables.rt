@@ -17,11 +17,12 @@ struct Tally {
     differing: u64,
 }
 
-// Tells whether the code gives the values that a row expects. A row with fields left over is malformed.
+// Tells whether the code gives the values that a row expects. A row with a field left over, or one that cannot be read,
+// is malformed.
 fn row_agrees(rt: &HostRuntime, row: &str) -> Result<bool, RowError> {
     let mut fields = Fields::new(row);
     let agrees = fields_agree(rt, &mut fields)?;
-    if fields.is_at_end() {
+    if fields.are_taken() {
         Ok(agrees)
     } else {
         Err(RowError::Malformed)

@@ -1,6 +1,6 @@
 // Rows of texts, and of what they are read as.
 use crate::fields::{Fields, RowError};
-use crate::parts::next_decimal;
+use crate::parts::{next_decimal, next_pair};
 use crate::texts::ephemeris_of_text;
 use eph_gen::generate;
 use eph_model::Ephemeris;
@@ -10,65 +10,50 @@ use spec_text::{Decimal, Fault};
 use std::alloc::Global;
 use std::{fs, str};
 
-// What a text is read as: the fault of its files, or the summary of its ephemeris.
-#[derive(Clone, Copy, PartialEq, Eq)]
-enum Outcome {
-    Fault(Fault),
-    Ephemeris(Summary),
-}
+// The summary of an ephemeris: the numbers in a block, the seconds of a block, the mass ratio, the number of blocks, and
+// the first and the last time.
+type Summary = (u32, i64, Decimal, u32, i64, i64);
 
-// The summary of an ephemeris, and its mass ratio.
-#[derive(Clone, Copy, PartialEq, Eq)]
-struct Summary {
-    ncoeff: u32,
-    block_seconds: i64,
-    emrat: Decimal,
-    blocks: u32,
-    start: i64,
-    end: i64,
-}
+// What a text is read as: the summary of its ephemeris, or the fault of its files.
+type Outcome = Result<Summary, Fault>;
 
-// Returns what rows of texts have of an ephemeris: the numbers in a block, the seconds of a block, the mass ratio, the
-// number of blocks, and the first and the last time.
+// Returns what rows of texts have of an ephemeris.
 fn summary_of(ephemeris: &Ephemeris) -> Summary {
     let header = ephemeris.header();
-    Summary {
-        ncoeff: header.ncoeff,
-        block_seconds: header.block_seconds,
-        emrat: header.emrat,
-        blocks: ephemeris.blocks(),
-        start: ephemeris.start(),
-        end: ephemeris.end(),
-    }
+    (
+        header.ncoeff,
+        header.block_seconds,
+        header.emrat,
+        ephemeris.blocks(),
+        ephemeris.start(),
+        ephemeris.end(),
+    )
 }
 
 // Reads the fault that a row expects of a text: the number of its line, the number of the fault, and a detail.
-fn expected_fault(fields: &mut Fields<'_>) -> Result<Fault, RowError> {
-    Ok(Fault {
-        line: fields.next_number::<u32>()?,
-        number: fields.next_number::<u8>()?,
-        detail: fields.next_number::<u16>()?,
-    })
+fn expected_fault(fields: &mut Fields<'_>) -> Fault {
+    Fault {
+        line: fields.next_number::<u32>(),
+        number: fields.next_number::<u8>(),
+        detail: fields.next_number::<u16>(),
+    }
 }
 
-// Reads the summary that a row expects of an ephemeris: the numbers in a block, the seconds of a block, the mass
-// ratio, the number of blocks, and the first and the last time.
-fn expected_summary(fields: &mut Fields<'_>) -> Result<Summary, RowError> {
-    Ok(Summary {
-        ncoeff: fields.next_number::<u32>()?,
-        block_seconds: fields.next_number::<i64>()?,
-        emrat: next_decimal(fields)?,
-        blocks: fields.next_number::<u32>()?,
-        start: fields.next_number::<i64>()?,
-        end: fields.next_number::<i64>()?,
-    })
+// Reads the summary that a row expects of an ephemeris.
+fn expected_summary(fields: &mut Fields<'_>) -> Summary {
+    let ncoeff = fields.next_number::<u32>();
+    let block_seconds = fields.next_number::<i64>();
+    let emrat = next_decimal(fields);
+    let blocks = fields.next_number::<u32>();
+    let (start, end) = next_pair(fields);
+    (ncoeff, block_seconds, emrat, blocks, start, end)
 }
 
 // Reads what a row expects of a text: the word `fault` and a fault, or the word `ephemeris` and a summary.
 fn expected_outcome(fields: &mut Fields<'_>) -> Result<Outcome, RowError> {
-    match fields.next_word()? {
-        "fault" => Ok(Outcome::Fault(expected_fault(fields)?)),
-        "ephemeris" => Ok(Outcome::Ephemeris(expected_summary(fields)?)),
+    match fields.next_word() {
+        "fault" => Ok(Err(expected_fault(fields))),
+        "ephemeris" => Ok(Ok(expected_summary(fields))),
         _ => Err(RowError::Malformed),
     }
 }
@@ -77,8 +62,8 @@ fn expected_outcome(fields: &mut Fields<'_>) -> Result<Outcome, RowError> {
 // other refusal of the reader, except out of memory, is malformed.
 fn outcome_of_text(alloc: Global, text: Vec<u8>) -> Result<Outcome, RowError> {
     match ephemeris_of_text(alloc, text)? {
-        Ok(ephemeris) => Ok(Outcome::Ephemeris(summary_of(&ephemeris))),
-        Err(FilesError::Fault { fault, .. }) => Ok(Outcome::Fault(fault)),
+        Ok(ephemeris) => Ok(Ok(summary_of(&ephemeris))),
+        Err(FilesError::Fault { fault, .. }) => Ok(Err(fault)),
         Err(_) => Err(RowError::Malformed),
     }
 }
@@ -92,7 +77,7 @@ struct Change {
 
 // Reads the number of a line of the row's file, counted from 1, and the line that replaces it.
 fn next_change(alloc: Global, fields: &mut Fields<'_>) -> Result<Change, RowError> {
-    let number = fields.next_number::<usize>()?;
+    let number = fields.next_number::<usize>();
     let line = fields.next_bytes(alloc)?;
     Ok(Change { number, line })
 }
@@ -100,7 +85,7 @@ fn next_change(alloc: Global, fields: &mut Fields<'_>) -> Result<Change, RowErro
 // Reads a count, and as many lines that replace others, each after the number of the line that it replaces.
 fn next_changes(alloc: Global, fields: &mut Fields<'_>) -> Result<Vec<Change>, RowError> {
     let mut changes = Vec::new(alloc);
-    for _ in 0..fields.next_number::<usize>()? {
+    for _ in 0..fields.next_number::<usize>() {
         changes.push(next_change(alloc, fields)?)?;
     }
     Ok(changes)
@@ -147,8 +132,8 @@ fn changed_text_of_file(
 /// Compares what a text is read as: the row has a name, which only tells rows apart, a file, the lines of it that are
 /// replaced, and the fault or the summary of the ephemeris.
 pub(crate) fn text_agrees(rt: &HostRuntime, fields: &mut Fields<'_>) -> Result<bool, RowError> {
-    let _name = fields.next_word()?;
-    let file = fields.next_word()?;
+    let _name = fields.next_word();
+    let file = fields.next_word();
     let changes = next_changes(rt.alloc(), fields)?;
     let expected = expected_outcome(fields)?;
     let text = changed_text_of_file(rt, file, &changes)?;
@@ -171,10 +156,10 @@ pub(crate) fn generated_text_agrees(
     alloc: Global,
     fields: &mut Fields<'_>,
 ) -> Result<bool, RowError> {
-    let blocks = fields.next_number::<u32>()?;
-    let seed = fields.next_number::<u64>()?;
-    let length = fields.next_number::<usize>()?;
-    let sum = fields.next_number::<u32>()?;
+    let blocks = fields.next_number::<u32>();
+    let seed = fields.next_number::<u64>();
+    let length = fields.next_number::<usize>();
+    let sum = fields.next_number::<u32>();
     if blocks == 0 || blocks > MAX_GENERATED {
         return Err(RowError::Malformed);
     }

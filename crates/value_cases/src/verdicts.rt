@@ -19,18 +19,10 @@ use spec_trees::CutRule;
 use std::alloc::Global;
 
 // The time at which the parts of a node meet, and the depth of each.
-#[derive(Clone, Copy, PartialEq, Eq)]
-struct Meeting {
-    time: i64,
-    depths: [u32; 2],
-}
+type Meeting = (i64, [u32; 2]);
 
 // A verdict, and where the parts of a node meet that is split.
-#[derive(Clone, Copy, PartialEq, Eq)]
-struct Judgement {
-    verdict: Verdict,
-    meeting: Option<Meeting>,
-}
+type Judgement = (Verdict, Option<Meeting>);
 
 // Reads a node of a search: its two times, in order and within those of the ephemeris, and its depth, which is at most
 // `depth`. Any other is malformed.
@@ -38,9 +30,9 @@ fn next_node(ephemeris: &Ephemeris, depth: u32, fields: &mut Fields<'_>) -> Resu
     ensures { IfOk result (IsWithin ephemeris.now depth) }
 {
     let node = Node {
-        a: fields.next_number::<i64>()?,
-        b: fields.next_number::<i64>()?,
-        depth: fields.next_number::<u32>()?,
+        a: fields.next_number::<i64>(),
+        b: fields.next_number::<i64>(),
+        depth: fields.next_number::<u32>(),
     };
     if node.a < ephemeris.start() || node.b <= node.a || ephemeris.end() < node.b {
         return Err(RowError::Malformed);
@@ -52,30 +44,30 @@ fn next_node(ephemeris: &Ephemeris, depth: u32, fields: &mut Fields<'_>) -> Resu
 }
 
 // Reads the time at which a row expects that the two parts of a node meet, and the depth that both have.
-fn expected_meeting(fields: &mut Fields<'_>) -> Result<Meeting, RowError> {
-    let time = fields.next_number::<i64>()?;
-    let depth = fields.next_number::<u32>()?;
-    Ok(Meeting {
-        time,
-        depths: [depth, depth],
-    })
+fn expected_meeting(fields: &mut Fields<'_>) -> Meeting {
+    let time = fields.next_number::<i64>();
+    let depth = fields.next_number::<u32>();
+    (time, [depth, depth])
 }
 
 // Reads the verdict that a row expects, and for a node that is split the time at which its parts meet and their depth.
-fn expected_judgement(fields: &mut Fields<'_>) -> Result<Judgement, RowError> {
-    let verdict = match fields.next_word()? {
+fn expected_judgement(fields: &mut Fields<'_>) -> Judgement {
+    let verdict = match fields.next_word() {
         "clear" => Verdict::Clear,
         "rise" => Verdict::One(Turn::Rise),
         "fall" => Verdict::One(Turn::Fall),
         "undecided" => Verdict::Undecided,
         "split" => Verdict::Split,
-        _ => return Err(RowError::Malformed),
+        _ => {
+            fields.refuse();
+            Verdict::Clear
+        }
     };
     let meeting = match verdict {
-        Verdict::Split => Some(expected_meeting(fields)?),
+        Verdict::Split => Some(expected_meeting(fields)),
         _ => None,
     };
-    Ok(Judgement { verdict, meeting })
+    (verdict, meeting)
 }
 
 // Returns the verdict of a judge on a valid node, and for a node that is split where its two parts meet.
@@ -87,16 +79,13 @@ fn judgement_on<J: Judge>(judge: &J, node: Node) -> Judgement
         Verdict::Split => Some(meeting_of_parts(judge.cut(node))),
         _ => None,
     };
-    Judgement { verdict, meeting }
+    (verdict, meeting)
 }
 
 // Returns the time at which the left and the right part of a node meet, and their depths. It is read from the left
 // part: the judge's contract says that the right part starts where the left one ends.
 fn meeting_of_parts((left, right): (Node, Node)) -> Meeting {
-    Meeting {
-        time: left.b,
-        depths: [left.depth, right.depth],
-    }
+    (left.b, [left.depth, right.depth])
 }
 
 // A width and a depth down to which nodes are split, and the rule by which they are cut.
@@ -112,14 +101,14 @@ struct Splitting {
 fn next_splitting(fields: &mut Fields<'_>) -> Result<Splitting, RowError>
     ensures { IfOk result (λ splitting. pos 1 ≤ℤ splitting.width) }
 {
-    let width = fields.next_number::<i64>()?;
+    let width = fields.next_number::<i64>();
     if width < 1 {
         return Err(RowError::Malformed);
     }
     Ok(Splitting {
         width,
-        depth: fields.next_number::<u32>()?,
-        rule: next_cut_rule(fields)?,
+        depth: fields.next_number::<u32>(),
+        rule: next_cut_rule(fields),
     })
 }
 
@@ -185,6 +174,6 @@ pub(crate) fn verdict_agrees(
     let ask = next_ask(fields)?;
     let splitting = next_splitting(fields)?;
     let node = next_node(ephemeris, splitting.depth, fields)?;
-    let expected = expected_judgement(fields)?;
+    let expected = expected_judgement(fields);
     Ok(judgement_in_search(alloc, ephemeris, &ask, splitting, node)? == expected)
 }

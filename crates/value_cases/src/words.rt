@@ -10,9 +10,9 @@ use window_text::{read_time, time_text};
 // Reads what a row expects of a word: `ok` and a decimal, or `fault` and the number of the fault, 1 to 3, for which
 // the word is no decimal.
 fn expected_decimal(fields: &mut Fields<'_>) -> Result<Result<Decimal, NumberFault>, RowError> {
-    match fields.next_word()? {
-        "ok" => Ok(Ok(next_decimal(fields)?)),
-        "fault" => match fields.next_number::<u16>()? {
+    match fields.next_word() {
+        "ok" => Ok(Ok(next_decimal(fields))),
+        "fault" => match fields.next_number::<u16>() {
             1 => Ok(Err(NumberFault::NotNumber)),
             2 => Ok(Err(NumberFault::TooManyDigits)),
             3 => Ok(Err(NumberFault::ExponentRange)),
@@ -27,13 +27,13 @@ fn expected_decimal(fields: &mut Fields<'_>) -> Result<Result<Decimal, NumberFau
 pub(crate) fn decimal_agrees(alloc: Global, fields: &mut Fields<'_>) -> Result<bool, RowError> {
     let word = fields.next_bytes(alloc)?;
     let is_decimal = expected_decimal(fields)? == read_decimal(&word);
-    Ok(fields.next_number_or_none::<u32>()? == read_whole(&word) && is_decimal)
+    Ok(fields.next_number_or_none::<u32>() == read_whole(&word) && is_decimal)
 }
 
 // Reads what a row expects of a Julian date: its seconds, or `NotWholeSecond` or `OutOfRange` for a date that has
 // none.
 fn expected_seconds(fields: &mut Fields<'_>) -> Result<Result<u64, DaysFault>, RowError> {
-    match fields.next_word()? {
+    match fields.next_word() {
         "NotWholeSecond" => Ok(Err(DaysFault::NotWholeSecond)),
         "OutOfRange" => Ok(Err(DaysFault::OutOfRange)),
         word => match word.parse::<u64>() {
@@ -90,11 +90,11 @@ fn has_next_calendar_text(
 /// or the reason why the word is no time.
 pub(crate) fn time_agrees(alloc: Global, fields: &mut Fields<'_>) -> Result<bool, RowError> {
     let time = next_time(alloc, fields)?;
-    match fields.next_word()? {
+    match fields.next_word() {
         "NotTime" => Ok(time == Err(TimeFault::NotTime)),
         "OutOfRange" => Ok(time == Err(TimeFault::OutOfRange)),
         "ok" => {
-            let expected = fields.next_number::<i64>()?;
+            let expected = fields.next_number::<i64>();
             Ok(has_next_calendar_text(alloc, expected, fields)? && time == Ok(expected))
         }
         _ => Err(RowError::Malformed),

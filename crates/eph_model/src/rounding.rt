@@ -3,7 +3,7 @@ ghost use Rattle.std.specs.Prelude.{◌≡◌, ◌↔◌, ◌+◌, ◌<◌, ◌�
 ghost use Rattle.spec_text.specs.declared.decimals.Decimal.{Decimal};
 ghost use Rattle.spec_intervals.specs.Interval.{IsDistance};
 ghost use Rattle.spec_ephemeris.specs.Rounding.{pair_of};
-ghost use Rattle.eph_model.specs.Pairs.{IsPair, ArePairs};
+ghost use Rattle.eph_model.specs.Pairs.{IsPair, ArePairs, BeginWithPairs};
 ghost use Rattle.eph_model.specs.Stores.{IsRounded};
 
 use ival_core::{DISTANCE_EXPONENT, Ival, is_distance};
@@ -27,10 +27,10 @@ pub fn pair_of(number: Decimal) -> Rounded
     }
 }
 
-// Tells whether a number of km is below 2^36 in magnitude. An exponent of at most -9 tells so without a computation.
+/// Tells whether a number of km is below 2^36 in magnitude. An exponent of at most -9 tells so without a computation.
 #[tactic(auto, using(crate::proofs::Small::small_below))]
 #[inline(always)]
-fn is_below_distance_limit(number: Decimal) -> bool
+pub fn is_below_distance_limit(number: Decimal) -> bool
     ensures { IsTrue result ↔ IsDistance number.mant number.exp }
 {
     number.exp <= SMALL_EXPONENT || is_distance(number.mant, number.exp)
@@ -83,4 +83,17 @@ pub(crate) fn push_pairs(pairs: &mut Vec<Rounded>, numbers: &[Decimal]) -> Resul
         pairs.push(pair_or_zeros(rounded(number)))?;
     }
     Ok(())
+}
+
+// Appends the pairs of those numbers that lack theirs, to a vector that has room for them. The match answers nothing:
+// with that room the call never fails.
+pub(crate) fn push_lacking_pairs(pairs: &mut Vec<Rounded>, numbers: &[Decimal])
+    requires begun { BeginWithPairs numbers.now pairs.old.items }
+    requires room { length numbers.now ≤ vec_capacity pairs.old }
+    ensures { ArePairs numbers.now pairs.new.items }
+{
+    let first = pairs.len();
+    match push_pairs(pairs, &numbers[first..]) {
+        Ok(()) | Err(_) => {}
+    }
 }

@@ -1,5 +1,7 @@
 -- Pairs beside numbers, one after the other.
 use Rattle.std.proofs.Common.{◌≡◌, ℕ, zero, suc, ◌+◌, ◌^◌, ◌<◌, ◌≤◌, slice_index_or, append_assoc, sym, List, [], ◌∷◌, ◌++◌, length, map, take, drop, All, ℤ, unsigned_abs, w64, to_z, of_z, FitsSigned, refl, ap, subst, ◌∙◌, arith}
+use Rattle.std.specs.Prelude.{IsOk, OnOk, Result, Ok, Err}
+use Rattle.std.proofs.lemmas.Bool.{false≢true}
 use Rattle.std.proofs.lemmas.Int.{ints, to_z-of_z}
 use Rattle.std.proofs.lemmas.List.{take-append-drop, take_more}
 use Rattle.std.proofs.lemmas.List.Elements.{All-head, All-tail}
@@ -108,11 +110,13 @@ are_begun [] (p ∷ ps) are = absurd are
 are_begun (d ∷ ds) [] are = absurd are
 are_begun (d ∷ ds) (p ∷ ps) are = (are.0, are_begun ds ps are.1)
 
--- the lacking pairs after those that were there
-pub begun_filled : (ds : List Decimal) (ps new : List Rounded) → BeginWithPairs ds ps
-    → ((before : List Decimal) → ArePairs before ps → ArePairs (before ++ drop (length ps) ds) new) → ArePairs ds new
-begun_filled ds ps new begun filled =
-    subst (λ (l : List Decimal). ArePairs l new) (take-append-drop (length ps) ds) (filled (take (length ps) ds) (begun_are ds ps begun))
+-- the lacking pairs, those of the rest of the numbers, after those that were there
+pub begun_filled : {T E : Type 0} (result : Result T E) (ds : List Decimal) (ps new : List Rounded) (rest : List Decimal) → rest ≡ drop (length ps) ds
+    → BeginWithPairs ds ps → IsOk result → OnOk result ((before : List Decimal) → ArePairs before ps → ArePairs (before ++ rest) new) → ArePairs ds new
+begun_filled (Ok done) ds ps new rest is begun ok filled =
+    subst (λ (l : List Decimal). ArePairs l new) (ap (λ (l : List Decimal). take (length ps) ds ++ l) is ∙ take-append-drop (length ps) ds)
+    (filled (take (length ps) ds) (begun_are ds ps begun))
+begun_filled (Err error) ds ps new rest is begun ok filled = absurd (false≢true ok)
 
 -- ---- a small end in 64 bits
 small_fits : (z : ℤ) → unsigned_abs z ≤ 2 ^ 60 → FitsSigned w64 z

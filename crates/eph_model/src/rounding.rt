@@ -66,6 +66,7 @@ pub(crate) fn push_pair(pairs: &mut Vec<Rounded>, pair: Rounded) -> Result<(), A
     requires room { vec_len pairs.old < vec_capacity pairs.old }
     ensures done { IsOk result }
     ensures added { pairs.new.items ≡ pairs.old.items ++ pair ∷ [] }
+    ensures capacity { vec_capacity pairs.old ≤ vec_capacity pairs.new }
 {
     pairs.push(pair)?;
     Ok(())
@@ -85,15 +86,14 @@ pub(crate) fn push_pairs(pairs: &mut Vec<Rounded>, numbers: &[Decimal]) -> Resul
     Ok(())
 }
 
-// Appends the pairs of those numbers that lack theirs, to a vector that has room for them. The match answers nothing:
-// with that room the call never fails.
+// Appends the pairs of those numbers that lack theirs, the last ones, to a vector that has room for them. With that
+// room no call fails, so that the answer of `push_pairs` says nothing.
 pub(crate) fn push_lacking_pairs(pairs: &mut Vec<Rounded>, numbers: &[Decimal])
     requires begun { BeginWithPairs numbers.now pairs.old.items }
+    requires fewer { vec_len pairs.old ≤ length numbers.now }
     requires room { length numbers.now ≤ vec_capacity pairs.old }
     ensures { ArePairs numbers.now pairs.new.items }
 {
     let first = pairs.len();
-    match push_pairs(pairs, &numbers[first..]) {
-        Ok(()) | Err(_) => {}
-    }
+    let _ = push_pairs(pairs, &numbers[first..]);
 }

@@ -90,8 +90,9 @@ impl BlockStore {
         ensures added { OnOk result (self.new ≡ with_number self.old number) }
         ensures memory { OnErr result (self.new ≡ self.old) }
     {
-        let lacking = self.numbers.len() - self.pairs.len();
-        self.pairs.reserve(lacking + 1)?;
+        let paired = self.pairs.len();
+        let count = self.numbers.len();
+        self.pairs.reserve(count - paired + 1)?;
         self.numbers.push(number)?;
         Ok(())
     }
@@ -105,7 +106,9 @@ impl BlockStore {
         ensures added { OnOk result (self.new ≡ with_number self.old number) }
         ensures memory { OnErr result (self.new ≡ self.old) }
     {
-        if self.pairs.len() < self.numbers.len() {
+        let paired = self.pairs.len();
+        let count = self.numbers.len();
+        if paired < count {
             return self.push_unrounded(number);
         }
         self.pairs.reserve(1)?;

@@ -1,7 +1,8 @@
 // The text about an ephemeris, which `check` prints. Calls that append fail only if memory runs out.
-ghost use Rattle.std.specs.Prelude.{◌≡◌, ◌<◌, ◌++◌, None, IfOk, OnOk, string_bytes};
-ghost use Rattle.spec_ephemeris.specs.Ephemeris.{Ephemeris, end_of};
-ghost use Rattle.spec_output.specs.Summary.{column_line, column_lines, column_name, line_if_present, name_of_column, sizes_of, span_of, summary};
+ghost use Rattle.std.specs.Prelude.{◌≡◌, ◌<◌, ◌++◌, codes, None, IfOk, OnOk, string_bytes};
+ghost use Rattle.std.specs.Fmt.{decimal, signed_decimal};
+ghost use Rattle.spec_ephemeris.specs.Ephemeris.{end_of};
+ghost use Rattle.spec_output.specs.Summary.{column_line, column_lines, column_name, line_if_present, name_of_column, summary};
 ghost use Rattle.spec_times.specs.Calendar.{time_text};
 ghost use Rattle.spec_times.specs.TimeWords.{IsTime};
 
@@ -48,8 +49,8 @@ pub fn summary_of_store(alloc: Global, store: &BlockStore) -> Result<Vec<u8>, Me
 fn add_span(text: &mut String, start: i64, end: i64) -> Result<(), AllocError>
     requires start { IsTime start }
     requires end { IsTime end }
-    ensures { (e : Ephemeris) → e.start ≡ start → end_of e ≡ end
-        → OnOk result (string_bytes text.new ≡ string_bytes text.old ++ span_of e) }
+    ensures { OnOk result (string_bytes text.new ≡ string_bytes text.old
+        ++ (codes "CHECK start " ++ time_text start ++ (codes " end " ++ time_text end))) }
 {
     add_named_time(text, "CHECK start ", start)?;
     add_named_time(text, " end ", end)
@@ -68,8 +69,10 @@ fn add_named_time(text: &mut String, name: &str, time: i64) -> Result<(), AllocE
 // Appends the sizes of an ephemeris with this header, which end the line: the seconds of a block, the number of blocks,
 // and the number of coefficients in a block (NCOEFF). The only error is out of memory.
 fn add_sizes(text: &mut String, header: &Header, blocks: u32) -> Result<(), AllocError>
-    ensures { (e : Ephemeris) → e.header ≡ header.now → e.blocks ≡ blocks
-        → OnOk result (string_bytes text.new ≡ string_bytes text.old ++ sizes_of e) }
+    ensures { OnOk result (string_bytes text.new ≡ string_bytes text.old
+        ++ (codes " block " ++ signed_decimal header.now.block_seconds
+        ++ (codes " blocks " ++ decimal blocks)
+        ++ (codes " ncoeff " ++ decimal header.now.ncoeff ++ codes "\n"))) }
 {
     add_number(text, " block ", header.block_seconds)?;
     add_number(text, " blocks ", blocks as u64)?;

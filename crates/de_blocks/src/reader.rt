@@ -82,8 +82,8 @@ impl BlockReader {
         BlockReader::with_rounding(alloc, header, Rounding::AtOnce)
     }
 
-    /// Makes a reader that waits for the first line after the header, and rounds numbers then. What it says of lines
-    /// does not depend on that. It does not allocate.
+    /// Makes a reader that waits for the first line after the header. `rounding` is when it rounds numbers, on which
+    /// nothing depends that it says of lines. It does not allocate.
     pub fn with_rounding(alloc: Global, header: Header, rounding: Rounding) -> Self
         requires { IsHeader header }
         ensures blocks { IsAt result (blocks header) }

@@ -107,9 +107,9 @@ fn feed_files<S: Shelf>(
     Ok(Fed { reader, end_line })
 }
 
-/// Returns the store with the blocks of the files of these names, which the shelf opens one after the other. Numbers are
-/// rounded then. No file is opened after one that has a fault or cannot be read, and of none more than 268,435,457 bytes
-/// are read.
+/// Returns the store with the blocks of the files of these names, which the shelf opens one after the other. `rounding`
+/// is when numbers are rounded. No file is opened after one that has a fault or cannot be read, and of none more than
+/// 268,435,457 bytes are read.
 ///
 /// `Fault` is the first fault; more than `MAX_FILES` names are the fault `TOO_MANY_FILES` at file `MAX_FILES`, before
 /// any is opened. `NotRead` if a file is missing or the shelf fails; `Memory` if memory is out, and never for a first

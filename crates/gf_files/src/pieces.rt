@@ -76,7 +76,7 @@ fn feed_last_piece(
 /// the number of the file's lines plus 1. The number of the file, counted from 0, is for the errors: the first fault of
 /// its lines, once all of the file was read; the fault `FILE_TOO_LARGE` for more than 268,435,456 bytes, of which one
 /// byte more is read; `NotRead` if the shelf fails; or out of memory. The window holds a piece at a time; its room
-/// serves later files too. Numbers are rounded then.
+/// serves later files too. `rounding` is when numbers are rounded.
 pub(crate) fn feed_rest<S: Shelf>(
     alloc: Global,
     rounding: Rounding,

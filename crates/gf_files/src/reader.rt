@@ -43,8 +43,8 @@ pub(crate) fn first_reader() -> Reader
     Reader::Header(HeaderReader::new())
 }
 
-// Returns the reader of the blocks after a header that is whole, which rounds numbers then. `line` is the line that
-// ended the header, whose number an error would name. Errors: out of memory.
+// Returns the reader of the blocks after a header that is whole. `rounding` is when it rounds numbers, and `line` the
+// line that ended the header, whose number an error would name. Errors: out of memory.
 fn begin_blocks(
     alloc: Global,
     rounding: Rounding,
@@ -169,8 +169,8 @@ fn feed_lines(
 }
 
 /// Gives all lines of the next piece of a text to the reader that took those of the pieces before it. Returns that
-/// reader, with the number of the lines up to there plus 1. Numbers are rounded then. Errors: that of the pieces before;
-/// else the first fault of the lines, or out of memory.
+/// reader, with the number of the lines up to there plus 1. `rounding` is when numbers are rounded. Errors: that of the
+/// pieces before; else the first fault of the lines, or out of memory.
 pub(crate) fn feed_piece(
     alloc: Global,
     rounding: Rounding,

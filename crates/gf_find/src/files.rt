@@ -60,8 +60,9 @@ fn unread_refusal_by_place(alloc: Global, names: &[String], file: usize) -> Refu
     unread_refusal_by_name(alloc, &names[file])
 }
 
-/// Reads the files of these names, in their order, into a store, and rounds numbers then. The error names the first file
-/// that has a fault or cannot be read, or is out of memory. Without a name, or with too many, no file is opened.
+/// Reads the files of these names, in their order, into a store. `rounding` is when numbers are rounded. The error names
+/// the first file that has a fault or cannot be read, or is out of memory. Without a name, or with too many, no file is
+/// opened.
 pub(crate) fn store_of_files<S: Shelf>(
     alloc: Global,
     rounding: Rounding,

@@ -1,4 +1,4 @@
-use Rattle.std.proofs.Common.{◌≡◌, ◌∙◌, ◌*◌, ◌≤◌, take, ap, arith, length, sym, List, subst, rules, to_z, of_z, w64}
+use Rattle.std.proofs.Common.{◌≡◌, ◌∙◌, ◌*◌, take, ap, arith, length, sym, List, subst, rules, to_z, of_z, w64}
 use Rattle.std.specs.Prelude.{vec_len}
 use Rattle.std.proofs.lemmas.List.{length-take}
 use Rattle.spec_text.specs.declared.decimals.Decimal.{Decimal}

@@ -1,4 +1,4 @@
-use Rattle.std.proofs.Common.{◌≡◌, ◌≤◌, arith, length, rules, [], ◌∷◌}
+use Rattle.std.proofs.Common.{◌≡◌, arith, length, rules, [], ◌∷◌}
 use Rattle.std.proofs.lemmas.List.{length-append}
 use Rattle.std.specs.Prelude.{vec_len}
 use Rattle.eph_model.proofs.PairLists.{begun_length, begun_more}

@@ -13,7 +13,7 @@ invariant_of-self-2 c =
     let less = begun_length _ _ c.self.invariant.1 in
     let held : vec_len e.pairs ≡ length e.pairs.items = search rules in
     let one = length-append e.numbers.items (c.args.number ∷ []) in
-    let all : length e.numbers.items ≤ length e.pairs.items = omega (arith, paired, count, c.if-paired-lt-count.false) in (
+    let all : length e.numbers.items ≤ length e.pairs.items = omega (arith, paired, count, c.if-paired-count.false) in (
       rw c.in_ok-push.ensures.items (still_checked e.header e.start e.blocks e.numbers.items c.self.invariant.0 _),
       are_begun _ _
           (pairs_pushed e.numbers.items c.push.new.self.items c.args.number e.pairs.items c.push_pair.new.pairs.items c.pair_or_zeros.result

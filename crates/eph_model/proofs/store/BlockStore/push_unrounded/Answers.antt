@@ -5,8 +5,16 @@ use Rattle.eph_model.proofs.PairLists.{begun_length, begun_more}
 use Rattle.eph_model.proofs.StoreLists.{still_checked}
 use Rattle.eph_model.proofs.store.BlockStore.push_unrounded.Goals as goal
 
-pub invariant_of-self : goal.invariant_of-self
-invariant_of-self c =
+pub overflow_sub-count : goal.overflow_sub-count
+overflow_sub-count c =
+    let e = c.self.inside in
+    let paired : c.len-paired.result ≡ length e.pairs.items = search rules in
+    let count : c.len-count.result ≡ length e.numbers.items = search rules in
+    let less = begun_length _ _ c.self.invariant.1 in
+    omega (arith, paired, count, less)
+
+pub invariant_of-self-2 : goal.invariant_of-self-2
+invariant_of-self-2 c =
     let e = c.self.inside in
     let paired : c.len-paired.result ≡ length e.pairs.items = search rules in
     let count : c.len-count.result ≡ length e.numbers.items = search rules in

@@ -48,7 +48,7 @@ impl Model for BlockStore {
       blocks = s.blocks;
       numbers = take (s.blocks * s.header.ncoeff) s.numbers.items;
     }) × BeginWithPairs s.numbers.items s.pairs.items
-      × (length s.numbers.items ≤ vec_capacity s.pairs) };
+        × (length s.numbers.items ≤ vec_capacity s.pairs) };
 }
 
 impl BlockStore {

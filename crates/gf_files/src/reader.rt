@@ -57,9 +57,7 @@ fn begin_blocks(
         → Moves old line.now result }
 {
     let header = header.end(alloc, line.number())?;
-    Ok(Reader::Blocks(BlockReader::with_rounding(
-        alloc, header, rounding,
-    )))
+    Ok(Reader::Blocks(BlockReader::with_rounding(alloc, header, rounding)))
 }
 
 // Gives a line to the reader of the header. Returns that reader, or the reader of the blocks once the header is
@@ -212,11 +210,7 @@ fn end_within_header(
 /// Returns the store with the blocks of all lines. `line` is the number of the last file's lines plus 1. Errors: a fault
 /// at that line, if a header or a block is not whole or no block was read; the fault that was met before; or out of
 /// memory.
-pub(crate) fn end_reading(
-    alloc: Global,
-    reader: Reader,
-    line: u32,
-) -> Result<BlockStore, ReadError>
+pub(crate) fn end_reading(alloc: Global, reader: Reader, line: u32) -> Result<BlockStore, ReadError>
     requires { IsReady reader }
     ensures { Finishes line (ephemeris_after 0 reader []) (accepted_in result) }
 {

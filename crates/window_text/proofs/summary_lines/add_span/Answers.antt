@@ -1,4 +1,5 @@
-use Rattle.std.proofs.Common.{◌++◌, codes, to_z-of_z, w64}
+use Rattle.std.proofs.Common.{◌++◌, codes, w64}
+use Rattle.std.proofs.lemmas.Int.{to_z-of_z}
 use Rattle.spec_times.specs.Calendar.{time_text}
 use Rattle.window_text.proofs.Appended.{two_pieces}
 use Rattle.window_text.proofs.summary_lines.add_span.Goals as goal

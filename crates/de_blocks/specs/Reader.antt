@@ -4,6 +4,7 @@ use Rattle.spec_text.specs.Lines.{TokenLine}
 use Rattle.spec_text.specs.declared.decimals.Decimal.{Decimal}
 use Rattle.spec_text.specs.declared.decimals.Fault.{Fault}
 use Rattle.spec_ephemeris.specs.Ephemeris.{Ephemeris, IsEphemeris}
+use Rattle.eph_model.specs.Stores.{Store}
 use Rattle.spec_files.specs.Sections.{FileLine, Stop, ended, breaks, ◌>>=◌}
 use Rattle.spec_files.specs.Blocks.{blocks_after, further_numbers, with_numbers}
 use Rattle.spec_files.specs.Read.{AreRead}
@@ -113,3 +114,8 @@ Ends end said result = result ≡ at_end end said
 -- a checked ephemeris with a block
 abbrev pub HasBlocks : Ephemeris → Type 0
 HasBlocks e = IsEphemeris e × (0 < e.blocks)
+
+-- the ephemeris of the whole blocks of a store, or why there is none
+abbrev pub accepted_in : Result Store ReadError → Result Ephemeris ReadError
+accepted_in (Ok store) = Ok store.accepted
+accepted_in (Err error) = Err error

@@ -1,6 +1,7 @@
 // A block that was begun, after the blocks before it.
 ghost use Rattle.std.specs.Prelude.{◌≡◌, ◌<◌, ◌≤◌, ◌++◌, [], ◌∷◌, IfOk, List, Ok, Some, length, ℕ};
 ghost use Rattle.spec_text.specs.declared.decimals.Decimal.{Decimal};
+ghost use Rattle.spec_intervals.specs.Interval.{IsDistance};
 ghost use Rattle.spec_ephemeris.specs.Header.{IsHeader};
 ghost use Rattle.spec_ephemeris.specs.Ephemeris.{IsEphemeris};
 ghost use Rattle.spec_text.specs.Reading.{reading};
@@ -17,7 +18,8 @@ use crate::rules::{
     check_coefficient, dates_if_rule_met, is_block_skipped, is_too_large_number, read_first_date,
     read_number, read_second_date,
 };
-use eph_model::{BlockStore, Ephemeris, Rounded, rounded, rounded_pair_by_guess};
+use crate::state::Rounding;
+use eph_model::{BlockStore, Rounded, is_below_distance_limit, rounded, rounded_pair_by_guess};
 use spec_ephemeris::Header;
 use spec_files::{BrokenRule, ReadError, ruled_at};
 use spec_text::Decimal;
@@ -29,6 +31,7 @@ use std::marker::Model;
 pub(crate) struct OpenBlock {
     store: BlockStore,
     dates: Dates,
+    rounding: Rounding,
 }
 
 impl Model for OpenBlock {
@@ -44,7 +47,7 @@ impl Model for OpenBlock {
 
 impl OpenBlock {
     /// Makes an open block without a number, after no blocks, for the files of this header. It does not allocate.
-    pub fn new(alloc: Global, header: Header) -> Self
+    pub fn new(alloc: Global, header: Header, rounding: Rounding) -> Self
         requires { IsHeader header }
         ensures accepted { result.accepted ≡ no_blocks header }
         ensures numbers { result.numbers ≡ [] }
@@ -52,6 +55,7 @@ impl OpenBlock {
         OpenBlock {
             store: BlockStore::new(alloc, header, 0),
             dates: Dates { start: 0, end: 0 },
+            rounding,
         }
     }
 
@@ -147,11 +151,25 @@ impl OpenBlock {
         Ok(())
     }
 
-    /// Adds a coefficient that was read on this line to a block that has its two dates. If one multiplication rounds
-    /// it, it is below 2^36 and breaks no rule; else all rules are checked. Errors: the fault of the rule that it
-    /// breaks, or out of memory.
+    // Adds a coefficient below 2^36 in magnitude, without its rounded pair, to a block that has its two dates. It
+    // breaks no rule, so that out of memory is the only error.
     #[inline(always)]
-    pub fn push_coefficient(&mut self, line: u32, number: Decimal) -> Result<(), ReadError>
+    fn push_unrounded_coefficient(&mut self, number: Decimal) -> Result<(), ReadError>
+        requires dates { 2 ≤ length self.old.numbers }
+        requires small { IsDistance number.mant number.exp }
+        ensures pushed { (line : ℕ) (word : List ℕ) → Ok number ≡ reading word
+            → Pushes self.old.accepted self.old.numbers line word result self.new.numbers }
+        ensures same { self.new.accepted ≡ self.old.accepted }
+    {
+        self.store.push_unrounded(number)?;
+        Ok(())
+    }
+
+    // Adds a coefficient that was read on this line to a block that has its two dates, with its rounded pair. If one
+    // multiplication rounds it, it is below 2^36 and breaks no rule; else all rules are checked. Errors: the fault of
+    // the rule that it breaks, or out of memory.
+    #[inline(always)]
+    fn round_coefficient(&mut self, line: u32, number: Decimal) -> Result<(), ReadError>
         requires few { length self.old.numbers < self.old.accepted.header.ncoeff }
         requires dates { 2 ≤ length self.old.numbers }
         ensures pushed { (word : List ℕ) → Ok number ≡ reading word
@@ -161,6 +179,40 @@ impl OpenBlock {
         match rounded_pair_by_guess(number) {
             Some(pair) => self.push_small_coefficient(number, pair),
             None => self.push_number(line, number),
+        }
+    }
+
+    // Adds a coefficient that was read on this line to a block that has its two dates, without its rounded pair. If it
+    // is below 2^36, it breaks no rule; else all rules are checked. Errors: the fault of the rule that it breaks, or out
+    // of memory.
+    #[inline(always)]
+    fn check_coefficient_alone(&mut self, line: u32, number: Decimal) -> Result<(), ReadError>
+        requires few { length self.old.numbers < self.old.accepted.header.ncoeff }
+        requires dates { 2 ≤ length self.old.numbers }
+        ensures pushed { (word : List ℕ) → Ok number ≡ reading word
+            → Pushes self.old.accepted self.old.numbers line word result self.new.numbers }
+        ensures same { self.new.accepted ≡ self.old.accepted }
+    {
+        if is_below_distance_limit(number) {
+            self.push_unrounded_coefficient(number)
+        } else {
+            self.push_number(line, number)
+        }
+    }
+
+    /// Adds a coefficient that was read on this line to a block that has its two dates, with its rounded pair if pairs
+    /// are made at once. Errors: the fault of the rule that it breaks, or out of memory.
+    #[inline(always)]
+    pub fn push_coefficient(&mut self, line: u32, number: Decimal) -> Result<(), ReadError>
+        requires few { length self.old.numbers < self.old.accepted.header.ncoeff }
+        requires dates { 2 ≤ length self.old.numbers }
+        ensures pushed { (word : List ℕ) → Ok number ≡ reading word
+            → Pushes self.old.accepted self.old.numbers line word result self.new.numbers }
+        ensures same { self.new.accepted ≡ self.old.accepted }
+    {
+        match self.rounding {
+            Rounding::AtOnce => self.round_coefficient(line, number),
+            Rounding::AtEnd => self.check_coefficient_alone(line, number),
         }
     }
 
@@ -196,10 +248,10 @@ impl OpenBlock {
         }
     }
 
-    /// Returns the ephemeris of the blocks that were accepted, without the block that was begun.
-    pub fn finish(self) -> Ephemeris
-        ensures { result ≡ self.accepted }
+    /// Returns the store of the blocks that were accepted, with the numbers of the block that was begun after them.
+    pub fn finish(self) -> BlockStore
+        ensures { result ≡ self }
     {
-        self.store.finish()
+        self.store
     }
 }

@@ -15,8 +15,8 @@ mod state;
 mod walk;
 
 pub use answers::BlockError;
-pub use eph_model::Ephemeris;
+pub use eph_model::{BlockStore, Ephemeris};
 pub use laws::readers_of_blocks_say_the_same_in_every_file;
 pub use reader::BlockReader;
 pub use spec_text::Fault;
-pub use state::Place;
+pub use state::{Place, Rounding};

@@ -4,16 +4,16 @@ ghost use Rattle.spec_text.specs.declared.decimals.Fault.{Fault};
 ghost use Rattle.spec_ephemeris.specs.Header.{IsHeader};
 ghost use Rattle.spec_files.specs.Blocks.{blocks};
 ghost use Rattle.spec_files.specs.declared.errors.ReadError.TheVariants as errors;
-ghost use Rattle.de_blocks.specs.Reader.{Ends, GivesAgain, HasBlocks, HasRead, IsAt, IsNotMemory, IsNotRefused, IsRefused, KeepsFault, Takes, answer, from_record, says};
+ghost use Rattle.de_blocks.specs.Reader.{Ends, GivesAgain, HasBlocks, HasRead, IsAt, IsNotMemory, IsNotRefused, IsRefused, KeepsFault, Takes, accepted_in, answer, from_record, says};
 ghost use Rattle.de_blocks.specs.declared.state.Place.TheVariants as places;
 
 use crate::accepting::read_line_and_accept;
 use crate::answers::BlockError;
 use crate::block::OpenBlock;
 use crate::rules::check_record_line;
-use crate::state::Place;
+use crate::state::{Place, Rounding};
 use de_text::Line;
-use eph_model::Ephemeris;
+use eph_model::{BlockStore, Ephemeris};
 use spec_ephemeris::Header;
 use spec_faults::{NO_BLOCK, TRUNCATED};
 use spec_text::Fault;
@@ -56,28 +56,41 @@ fn fault_at_end(line: u32, number: u8) -> BlockError
     })
 }
 
-// Returns the ephemeris of the accepted blocks, for a text that ends between two blocks. Errors: the fault `NO_BLOCK`
-// at this line, if there is no block.
-fn ephemeris_at_end(accepted: Ephemeris, line: u32) -> Result<Ephemeris, BlockError>
-    ensures end { Ends line (from_record accepted []) result }
-    ensures rules { IfOk result HasBlocks }
+// Returns the store of the accepted blocks, for a text that ends between two blocks. Errors: the fault `NO_BLOCK` at
+// this line, if there is no block. `let _header` computes nothing: that call's contract says that the blocks are
+// checked.
+fn store_at_end(store: BlockStore, line: u32) -> Result<BlockStore, BlockError>
+    ensures end { Ends line (from_record store.accepted []) (accepted_in result) }
+    ensures rules { IfOk result (λ found. HasBlocks found.accepted) }
 {
-    if accepted.blocks() == 0 {
+    let _header = store.header();
+    if store.blocks() == 0 {
         Err(fault_at_end(line, NO_BLOCK))
     } else {
-        Ok(accepted)
+        Ok(store)
     }
 }
 
 impl BlockReader {
-    /// Makes a reader that waits for the first line after the header. It does not allocate.
+    /// Makes a reader that waits for the first line after the header, and rounds each number as it is read. It does not
+    /// allocate.
     pub fn new(alloc: Global, header: Header) -> Self
         requires { IsHeader header }
         ensures blocks { IsAt result (blocks header) }
         ensures not_refused { IsNotRefused result }
     {
+        BlockReader::with_rounding(alloc, header, Rounding::AtOnce)
+    }
+
+    /// Makes a reader that waits for the first line after the header. `rounding` is when it rounds numbers, on which
+    /// nothing depends that it says of lines. It does not allocate.
+    pub fn with_rounding(alloc: Global, header: Header, rounding: Rounding) -> Self
+        requires { IsHeader header }
+        ensures blocks { IsAt result (blocks header) }
+        ensures not_refused { IsNotRefused result }
+    {
         BlockReader {
-            block: OpenBlock::new(alloc, header),
+            block: OpenBlock::new(alloc, header, rounding),
             place: Place::Between,
         }
     }
@@ -151,17 +164,29 @@ impl BlockReader {
         }
     }
 
-    /// Returns the ephemeris of all lines. `line` is the number of the last file's lines plus 1. Errors: the fault
-    /// that was kept; or, at `line`, fault 36 if the lines end within a block, or fault 37 if no block was read. It
-    /// does not allocate.
-    pub fn end(self, line: u32) -> Result<Ephemeris, BlockError>
-        ensures end { Ends line (says 0 self []) result }
-        ensures rules { IfOk result HasBlocks }
+    /// Returns the store with the blocks of all lines. `line` is the number of the last file's lines plus 1. Errors: the
+    /// fault that was kept; or, at `line`, fault 36 if the lines end within a block, or fault 37 if no block was read.
+    /// It does not allocate.
+    pub fn end_store(self, line: u32) -> Result<BlockStore, BlockError>
+        ensures end { Ends line (says 0 self []) (accepted_in result) }
+        ensures rules { IfOk result (λ found. HasBlocks found.accepted) }
     {
         match self.place {
             Place::Refused(fault) => Err(BlockError::Fault(fault)),
             Place::Inside => Err(fault_at_end(line, TRUNCATED)),
-            Place::Between => ephemeris_at_end(self.block.finish(), line),
+            Place::Between => store_at_end(self.block.finish(), line),
+        }
+    }
+
+    /// Returns the ephemeris of all lines. `line` is the number of the last file's lines plus 1. Errors: those of
+    /// `end_store`. It does not allocate.
+    pub fn end(self, line: u32) -> Result<Ephemeris, BlockError>
+        ensures end { Ends line (says 0 self []) result }
+        ensures rules { IfOk result HasBlocks }
+    {
+        match self.end_store(line) {
+            Ok(store) => Ok(store.finish()),
+            Err(error) => Err(error),
         }
     }
 }

@@ -15,3 +15,10 @@ ArePairs [] [] = Unit {0}
 ArePairs [] (p ∷ ps) = ⊥
 ArePairs (d ∷ ds) [] = ⊥
 ArePairs (d ∷ ds) (p ∷ ps) = IsPair d p × ArePairs ds ps
+
+-- the first of these numbers have these pairs, one each
+abbrev pub BeginWithPairs : List Decimal → List Rounded → Type 0
+BeginWithPairs [] [] = Unit {0}
+BeginWithPairs [] (p ∷ ps) = ⊥
+BeginWithPairs (d ∷ ds) [] = Unit {0}
+BeginWithPairs (d ∷ ds) (p ∷ ps) = IsPair d p × BeginWithPairs ds ps

@@ -18,6 +18,6 @@ mod store;
 pub use columns::{component_count, is_present, place_after_column};
 pub use ephemeris::{Ephemeris, Memory};
 pub use quick::rounded_pair_by_guess;
-pub use rounding::{pair_of, rounded};
+pub use rounding::{is_below_distance_limit, pair_of, rounded};
 pub use spec_ephemeris::{Body, Column, Columns, Granule, Header, Rounded};
 pub use store::BlockStore;

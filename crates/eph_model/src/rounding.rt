@@ -3,7 +3,7 @@ ghost use Rattle.std.specs.Prelude.{◌≡◌, ◌↔◌, ◌+◌, ◌<◌, ◌�
 ghost use Rattle.spec_text.specs.declared.decimals.Decimal.{Decimal};
 ghost use Rattle.spec_intervals.specs.Interval.{IsDistance};
 ghost use Rattle.spec_ephemeris.specs.Rounding.{pair_of};
-ghost use Rattle.eph_model.specs.Pairs.{IsPair, ArePairs};
+ghost use Rattle.eph_model.specs.Pairs.{IsPair, ArePairs, BeginWithPairs};
 ghost use Rattle.eph_model.specs.Stores.{IsRounded};
 
 use ival_core::{DISTANCE_EXPONENT, Ival, is_distance};
@@ -27,10 +27,10 @@ pub fn pair_of(number: Decimal) -> Rounded
     }
 }
 
-// Tells whether a number of km is below 2^36 in magnitude. An exponent of at most -9 tells so without a computation.
+/// Tells whether a number of km is below 2^36 in magnitude. An exponent of at most -9 tells so without a computation.
 #[tactic(auto, using(crate::proofs::Small::small_below))]
 #[inline(always)]
-fn is_below_distance_limit(number: Decimal) -> bool
+pub fn is_below_distance_limit(number: Decimal) -> bool
     ensures { IsTrue result ↔ IsDistance number.mant number.exp }
 {
     number.exp <= SMALL_EXPONENT || is_distance(number.mant, number.exp)
@@ -66,6 +66,7 @@ pub(crate) fn push_pair(pairs: &mut Vec<Rounded>, pair: Rounded) -> Result<(), A
     requires room { vec_len pairs.old < vec_capacity pairs.old }
     ensures done { IsOk result }
     ensures added { pairs.new.items ≡ pairs.old.items ++ pair ∷ [] }
+    ensures capacity { vec_capacity pairs.old ≤ vec_capacity pairs.new }
 {
     pairs.push(pair)?;
     Ok(())
@@ -83,4 +84,16 @@ pub(crate) fn push_pairs(pairs: &mut Vec<Rounded>, numbers: &[Decimal]) -> Resul
         pairs.push(pair_or_zeros(rounded(number)))?;
     }
     Ok(())
+}
+
+// Appends the pairs of those numbers that lack theirs, the last ones, to a vector that has room for them. With that
+// room no call fails, so that the answer of `push_pairs` says nothing.
+pub(crate) fn push_lacking_pairs(pairs: &mut Vec<Rounded>, numbers: &[Decimal])
+    requires begun { BeginWithPairs numbers.now pairs.old.items }
+    requires fewer { vec_len pairs.old ≤ length numbers.now }
+    requires room { length numbers.now ≤ vec_capacity pairs.old }
+    ensures { ArePairs numbers.now pairs.new.items }
+{
+    let first = pairs.len();
+    let _ = push_pairs(pairs, &numbers[first..]);
 }

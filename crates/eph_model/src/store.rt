@@ -6,14 +6,15 @@ ghost use Rattle.spec_ephemeris.specs.Ephemeris.{IsBlock, IsEphemeris, IsStart, 
 ghost use Rattle.eph_model.specs.Stores.{IsRounded, closed, cut_to, store_starting_at, with_number};
 
 use crate::ephemeris::{Ephemeris, Memory};
-use crate::rounding::{pair_or_zeros, push_pair};
+use crate::rounding::{pair_or_zeros, push_lacking_pairs, push_pair};
 use spec_ephemeris::{Header, Rounded};
 use spec_text::Decimal;
 use std::alloc::Global;
 use std::marker::Model;
 
 /// A checked ephemeris whose blocks are still read. After its blocks, in the same store, stand the numbers of a block
-/// that was started. Times are seconds of TDB since J2000.
+/// that was started. The first numbers have their rounded pairs, and there is room for those of the others. Times are
+/// seconds of TDB since J2000.
 #[derive(Drop)]
 pub struct BlockStore {
     header: Header,
@@ -25,9 +26,9 @@ pub struct BlockStore {
 
 impl Model for BlockStore {
     ghost use Rattle.spec_ephemeris.specs.Ephemeris.{IsEphemeris};
-    ghost use Rattle.eph_model.specs.Pairs.{ArePairs};
+    ghost use Rattle.eph_model.specs.Pairs.{BeginWithPairs};
     ghost use Rattle.eph_model.specs.Stores.{Store};
-    ghost use Rattle.std.specs.Prelude.{◌*◌, take, drop};
+    ghost use Rattle.std.specs.Prelude.{◌*◌, ◌≤◌, take, drop, length, vec_capacity};
 
     ghost Value = { Store };
 
@@ -46,7 +47,8 @@ impl Model for BlockStore {
       start = s.start;
       blocks = s.blocks;
       numbers = take (s.blocks * s.header.ncoeff) s.numbers.items;
-    }) × ArePairs s.numbers.items s.pairs.items };
+    }) × BeginWithPairs s.numbers.items s.pairs.items
+        × (length s.numbers.items ≤ vec_capacity s.pairs) };
 }
 
 impl BlockStore {
@@ -81,14 +83,34 @@ impl BlockStore {
         self.numbers.len() - self.whole_block_number_count()
     }
 
+    /// Adds a number, a Julian date or a coefficient in km, to the block that was started, without its pair, for which
+    /// there is room then. After `Memory` nothing has changed.
+    #[inline(always)]
+    pub fn push_unrounded(&mut self, number: Decimal) -> Result<(), Memory>
+        ensures added { OnOk result (self.new ≡ with_number self.old number) }
+        ensures memory { OnErr result (self.new ≡ self.old) }
+    {
+        let paired = self.pairs.len();
+        let count = self.numbers.len();
+        self.pairs.reserve(count - paired + 1)?;
+        self.numbers.push(number)?;
+        Ok(())
+    }
+
     /// Adds a number, a Julian date or a coefficient in km, to the block that was started, with its pair, rounded
-    /// outward. Without a pair, zeros are kept beside the number. After `Memory` nothing has changed.
+    /// outward. Without a pair, zeros are kept beside the number; and none is kept after a number that lacks its own.
+    /// After `Memory` nothing has changed.
     #[inline(always)]
     pub fn push(&mut self, number: Decimal, rounded: Option<Rounded>) -> Result<(), Memory>
         requires { IsRounded number rounded }
         ensures added { OnOk result (self.new ≡ with_number self.old number) }
         ensures memory { OnErr result (self.new ≡ self.old) }
     {
+        let paired = self.pairs.len();
+        let count = self.numbers.len();
+        if paired < count {
+            return self.push_unrounded(number);
+        }
         self.pairs.reserve(1)?;
         self.numbers.push(number)?;
         push_pair(&mut self.pairs, pair_or_zeros(rounded))?;
@@ -124,6 +146,13 @@ impl BlockStore {
         self.start = start;
     }
 
+    /// Returns the time at which the first block starts, in seconds of TDB since J2000.
+    pub fn start(&self) -> i64
+        ensures { result ≡ self.now.accepted.start }
+    {
+        self.start
+    }
+
     /// Returns the time at which the last of the whole blocks ends, in seconds of TDB since J2000. Without a block it
     /// is the start.
     pub fn end(&self) -> i64
@@ -147,7 +176,8 @@ impl BlockStore {
         &self.header
     }
 
-    /// Returns the ephemeris of the whole blocks. The numbers of a block that was started are dropped.
+    /// Returns the ephemeris of the whole blocks. The numbers of a block that was started are dropped, and those that
+    /// lack their pairs get them.
     pub fn finish(self) -> Ephemeris
         ensures { result ≡ self.accepted }
     {
@@ -156,6 +186,7 @@ impl BlockStore {
         let mut pairs = self.pairs;
         numbers.truncate(whole);
         pairs.truncate(whole);
+        push_lacking_pairs(&mut pairs, &numbers);
         Ephemeris {
             header: self.header,
             start: self.start,

@@ -9,6 +9,7 @@ mod files;
 mod pieces;
 mod reader;
 
+pub use de_blocks::Rounding;
 pub use errors::FilesError;
 pub use file::read_file;
-pub use files::{Accepted, read_files};
+pub use files::{Accepted, Stored, read_files, read_store};

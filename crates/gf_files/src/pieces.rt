@@ -10,6 +10,7 @@ ghost use Rattle.gf_files.specs.Reader.{CanGoOn, FeedsPiece, IsReady};
 use crate::errors::{FilesError, error_in_file};
 use crate::file::{TOO_LARGE, append_next_bytes};
 use crate::reader::{Fed, Reader, feed_piece};
+use de_blocks::Rounding;
 use de_text::whole_lines_length;
 use gf_edges::Shelf;
 use spec_files::ReadError;
@@ -35,6 +36,7 @@ fn drop_front(bytes: &mut Vec<u8>, count: usize)
 // became of the pieces of the file up to there.
 fn feed_whole_lines(
     alloc: Global,
+    rounding: Rounding,
     fed: Result<Fed, ReadError>,
     window: &mut Vec<u8>,
     from: usize,
@@ -44,7 +46,7 @@ fn feed_whole_lines(
     ensures { GivesLines window.old.items window.new.items fed result }
 {
     let end = whole_lines_length(window, from);
-    let fed = feed_piece(alloc, fed, &window[..end]);
+    let fed = feed_piece(alloc, rounding, fed, &window[..end]);
     drop_front(window, end);
     fed
 }
@@ -53,6 +55,7 @@ fn feed_whole_lines(
 // errors: the first fault of its lines, or out of memory.
 fn feed_last_piece(
     alloc: Global,
+    rounding: Rounding,
     file: usize,
     fed: Result<Fed, ReadError>,
     piece: &[u8],
@@ -63,7 +66,7 @@ fn feed_last_piece(
         → (place ≡ file) × FeedsPiece fed piece.now (Err (errors.Fault fault)) }
     ensures read { (place : ℕ) → IsErrOf result (FilesError.NotRead place) → ⊥ }
 {
-    match feed_piece(alloc, fed, piece) {
+    match feed_piece(alloc, rounding, fed, piece) {
         Ok(last) => Ok(last),
         Err(error) => Err(error_in_file(file, error)),
     }
@@ -73,9 +76,10 @@ fn feed_last_piece(
 /// the number of the file's lines plus 1. The number of the file, counted from 0, is for the errors: the first fault of
 /// its lines, once all of the file was read; the fault `FILE_TOO_LARGE` for more than 268,435,456 bytes, of which one
 /// byte more is read; `NotRead` if the shelf fails; or out of memory. The window holds a piece at a time; its room
-/// serves later files too.
+/// serves later files too. `rounding` is when numbers are rounded.
 pub(crate) fn feed_rest<S: Shelf>(
     alloc: Global,
+    rounding: Rounding,
     shelf: &mut S,
     reader: Reader,
     file: usize,
@@ -102,7 +106,7 @@ pub(crate) fn feed_rest<S: Shelf>(
         let start = window.len();
         let count = append_next_bytes(shelf, file, window, MAX_TEXT_BYTES + 1 - taken)?;
         if count == 0 {
-            return feed_last_piece(alloc, file, fed, window);
+            return feed_last_piece(alloc, rounding, file, fed, window);
         }
         taken += count;
         if taken > MAX_TEXT_BYTES {
@@ -111,6 +115,6 @@ pub(crate) fn feed_rest<S: Shelf>(
                 fault: TOO_LARGE,
             });
         }
-        fed = feed_whole_lines(alloc, fed, window, start);
+        fed = feed_whole_lines(alloc, rounding, fed, window, start);
     }
 }

@@ -6,13 +6,13 @@ ghost use Rattle.spec_files.specs.Sections.{FileLine};
 ghost use Rattle.spec_files.specs.Lines.{ephemeris};
 ghost use Rattle.de_text.specs.Cursor.{counted_after};
 ghost use Rattle.de_header.specs.Reader as headers;
+ghost use Rattle.de_blocks.specs.Reader.{accepted_in};
 ghost use Rattle.gf_files.specs.declared.reader.Reader.TheVariants as readers;
 ghost use Rattle.gf_files.specs.Reader.{CanGoOn, FeedsLines, FeedsPiece, Finishes, IsOfHeader, IsReady, Moves, TookLine, WantsMore, ephemeris_after, moved};
 
-use de_blocks::BlockReader;
+use de_blocks::{BlockReader, BlockStore, Rounding};
 use de_header::{HeaderReader, Step};
 use de_text::{Line, LineStep, Tokens};
-use eph_model::Ephemeris;
 use spec_faults::LINE_TOO_LONG;
 use spec_files::ReadError;
 use spec_text::Fault;
@@ -43,16 +43,21 @@ pub(crate) fn first_reader() -> Reader
     Reader::Header(HeaderReader::new())
 }
 
-// Returns the reader of the blocks after a header that is whole. `line` is the line that ended the header, whose
-// number an error would name. Errors: out of memory.
-fn begin_blocks(alloc: Global, header: HeaderReader, line: &Line<'_>) -> Result<Reader, ReadError>
+// Returns the reader of the blocks after a header that is whole. `rounding` is when it rounds numbers, and `line` the
+// line that ended the header, whose number an error would name. Errors: out of memory.
+fn begin_blocks(
+    alloc: Global,
+    rounding: Rounding,
+    header: HeaderReader,
+    line: &Line<'_>,
+) -> Result<Reader, ReadError>
     requires whole { headers.IsWhole header }
     requires of_header { IsOfHeader header }
     ensures { (old : Reader) → TookLine old line.now (readers.Header header)
         → Moves old line.now result }
 {
     let header = header.end(alloc, line.number())?;
-    Ok(Reader::Blocks(BlockReader::new(alloc, header)))
+    Ok(Reader::Blocks(BlockReader::with_rounding(alloc, header, rounding)))
 }
 
 // Gives a line to the reader of the header. Returns that reader, or the reader of the blocks once the header is
@@ -61,6 +66,7 @@ fn begin_blocks(alloc: Global, header: HeaderReader, line: &Line<'_>) -> Result<
 #[inline(never)]
 fn take_header_line(
     alloc: Global,
+    rounding: Rounding,
     mut reader: HeaderReader,
     line: &Line<'_>,
 ) -> Result<Reader, ReadError>
@@ -69,7 +75,7 @@ fn take_header_line(
 {
     match reader.line(line)? {
         Step::More => Ok(Reader::Header(reader)),
-        Step::Done => begin_blocks(alloc, reader, line),
+        Step::Done => begin_blocks(alloc, rounding, reader, line),
     }
 }
 
@@ -87,14 +93,19 @@ fn take_block_line(reader: &mut BlockReader, line: &Line<'_>) -> Result<(), Read
 // Gives a line to the reader, whether it reads the header or blocks. Errors: the first fault of the lines, or out of
 // memory. The call is not inlined, since its locals are large and lines of blocks seldom need it.
 #[inline(never)]
-fn take_any_line(alloc: Global, reader: &mut Reader, line: &Line<'_>) -> Result<(), ReadError>
+fn take_any_line(
+    alloc: Global,
+    rounding: Rounding,
+    reader: &mut Reader,
+    line: &Line<'_>,
+) -> Result<(), ReadError>
     requires { IsReady reader.old }
     ensures { Moves reader.old line.now (moved result reader.new) }
 {
     match reader {
         Reader::Header(header) => {
             let header = mem::replace(header, HeaderReader::new());
-            *reader = take_header_line(alloc, header, line)?;
+            *reader = take_header_line(alloc, rounding, header, line)?;
             Ok(())
         }
         Reader::Blocks(blocks) => take_block_line(blocks, line),
@@ -104,12 +115,17 @@ fn take_any_line(alloc: Global, reader: &mut Reader, line: &Line<'_>) -> Result<
 // Gives a line to the reader. Lines of blocks are given in place, since a reader of blocks is large; lines of the
 // header go to `take_any_line`. Errors: the first fault of the lines, or out of memory.
 #[inline(always)]
-fn take_line(alloc: Global, reader: &mut Reader, line: &Line<'_>) -> Result<(), ReadError>
+fn take_line(
+    alloc: Global,
+    rounding: Rounding,
+    reader: &mut Reader,
+    line: &Line<'_>,
+) -> Result<(), ReadError>
     requires { IsReady reader.old }
     ensures { Moves reader.old line.now (moved result reader.new) }
 {
     match reader {
-        Reader::Header(_) => take_any_line(alloc, reader, &line.without_triple()),
+        Reader::Header(_) => take_any_line(alloc, rounding, reader, &line.without_triple()),
         Reader::Blocks(blocks) => take_block_line(blocks, line),
     }
 }
@@ -118,6 +134,7 @@ fn take_line(alloc: Global, reader: &mut Reader, line: &Line<'_>) -> Result<(), 
 // after them, with the number of the lines up to there plus 1. Errors: the first fault of the lines, or out of memory.
 fn feed_lines(
     alloc: Global,
+    rounding: Rounding,
     mut reader: Reader,
     before: u32,
     piece: &[u8],
@@ -130,9 +147,9 @@ fn feed_lines(
     let mut lines = Tokens::after(before, piece);
     loop {
         match lines.triple_line() {
-            Some(line) => take_line(alloc, &mut reader, &line)?,
+            Some(line) => take_line(alloc, rounding, &mut reader, &line)?,
             None => match lines.line() {
-                LineStep::Line(line) => take_any_line(alloc, &mut reader, &line)?,
+                LineStep::Line(line) => take_any_line(alloc, rounding, &mut reader, &line)?,
                 LineStep::TooLong(line) => {
                     return Err(ReadError::Fault(Fault {
                         line,
@@ -150,10 +167,11 @@ fn feed_lines(
 }
 
 /// Gives all lines of the next piece of a text to the reader that took those of the pieces before it. Returns that
-/// reader, with the number of the lines up to there plus 1. Errors: that of the pieces before; else the first fault of
-/// the lines, or out of memory.
+/// reader, with the number of the lines up to there plus 1. `rounding` is when numbers are rounded. Errors: that of the
+/// pieces before; else the first fault of the lines, or out of memory.
 pub(crate) fn feed_piece(
     alloc: Global,
+    rounding: Rounding,
     fed: Result<Fed, ReadError>,
     piece: &[u8],
 ) -> Result<Fed, ReadError>
@@ -161,35 +179,40 @@ pub(crate) fn feed_piece(
     ensures { FeedsPiece fed piece.now result }
 {
     match fed {
-        Ok(fed) => feed_lines(alloc, fed.reader, fed.end_line - 1, piece),
+        Ok(fed) => feed_lines(alloc, rounding, fed.reader, fed.end_line - 1, piece),
         Err(error) => Err(error),
     }
 }
 
-// Returns the ephemeris of the blocks that were read. `line` is the number of the last file's lines plus 1. Errors:
-// the fault at that line of a block that is not whole, or that no block was read.
-fn end_blocks(reader: BlockReader, line: u32) -> Result<Ephemeris, ReadError>
-    ensures { Finishes line (ephemeris_after 0 (readers.Blocks reader) []) result }
+// Returns the store of the blocks that were read. `line` is the number of the last file's lines plus 1. Errors: the
+// fault at that line of a block that is not whole, or that no block was read.
+fn end_blocks(reader: BlockReader, line: u32) -> Result<BlockStore, ReadError>
+    ensures { Finishes line (ephemeris_after 0 (readers.Blocks reader) []) (accepted_in result) }
 {
-    reader.end(line)
+    reader.end_store(line)
 }
 
 // Ends the reading within the header, at `line`, the number of the last file's lines plus 1. It always fails, with a
 // fault at that line, since a header that wants more lines is not whole. The last call is never reached: it serves
 // the types alone.
-fn end_within_header(alloc: Global, reader: HeaderReader, line: u32) -> Result<Ephemeris, ReadError>
+fn end_within_header(
+    alloc: Global,
+    reader: HeaderReader,
+    line: u32,
+) -> Result<BlockStore, ReadError>
     requires { WantsMore reader }
-    ensures { Finishes line (ephemeris_after 0 (readers.Header reader) []) result }
+    ensures { Finishes line (ephemeris_after 0 (readers.Header reader) []) (accepted_in result) }
 {
     let header = reader.end(alloc, line)?;
     end_blocks(BlockReader::new(alloc, header), line)
 }
 
-/// Returns the ephemeris of all lines. `line` is the number of the last file's lines plus 1. Errors: a fault at that
-/// line, if a header or a block is not whole or no block was read; the fault that was met before; or out of memory.
-pub(crate) fn end_reading(alloc: Global, reader: Reader, line: u32) -> Result<Ephemeris, ReadError>
+/// Returns the store with the blocks of all lines. `line` is the number of the last file's lines plus 1. Errors: a fault
+/// at that line, if a header or a block is not whole or no block was read; the fault that was met before; or out of
+/// memory.
+pub(crate) fn end_reading(alloc: Global, reader: Reader, line: u32) -> Result<BlockStore, ReadError>
     requires { IsReady reader }
-    ensures { Finishes line (ephemeris_after 0 reader []) result }
+    ensures { Finishes line (ephemeris_after 0 reader []) (accepted_in result) }
 {
     match reader {
         Reader::Header(reader) => end_within_header(alloc, reader, line),

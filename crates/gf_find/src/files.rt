@@ -3,9 +3,9 @@ ghost use Rattle.std.specs.Prelude.{◌≡◌, ◌⊎◌, ◌<◌, ◌≤◌, �
 ghost use Rattle.gf_find.specs.Outcomes.{FilesStop, HaveEphemeris, texts_of};
 ghost use Rattle.gf_find.specs.Reported.{AreNotOpened};
 
-use eph_model::Ephemeris;
+use eph_model::{BlockStore, Ephemeris};
 use gf_edges::Shelf;
-use gf_files::{FilesError, read_files};
+use gf_files::{FilesError, Rounding, read_store};
 use spec_faults::WORDS;
 use spec_outcomes::Refusal;
 use spec_requests::Text;
@@ -60,6 +60,38 @@ fn unread_refusal_by_place(alloc: Global, names: &[String], file: usize) -> Refu
     unread_refusal_by_name(alloc, &names[file])
 }
 
+/// Reads the files of these names, in their order, into a store. `rounding` is when numbers are rounded. The error names
+/// the first file that has a fault or cannot be read, or is out of memory. Without a name, or with too many, no file is
+/// opened.
+pub(crate) fn store_of_files<S: Shelf>(
+    alloc: Global,
+    rounding: Rounding,
+    shelf: &mut S,
+    names: &[String],
+) -> Result<BlockStore, Refusal>
+    ensures accepted { IfOk result (λ store. HaveEphemeris
+        (S.files shelf.old) (texts_of names.now) store.accepted) }
+    ensures refused { IfErr result (λ refusal. (refusal ≡ Refusal.Memory)
+        ⊎ FilesStop (S.files shelf.old) (texts_of names.now)
+        (S.faults shelf.old) (S.faults shelf.new) refusal) }
+    ensures unopened { AreNotOpened (texts_of names.now) → shelf.new ≡ shelf.old }
+    ensures files { S.files shelf.new ≡ S.files shelf.old }
+    ensures later { S.faults shelf.old ≤ S.faults shelf.new }
+{
+    if names.is_empty() {
+        return Err(Refusal::Words {
+            number: WORDS,
+            option: None,
+        });
+    }
+    match read_store(alloc, rounding, shelf, names) {
+        Ok(found) => Ok(found.store),
+        Err(FilesError::Fault { file, fault }) => Err(refusal_by_place(alloc, names, file, fault)),
+        Err(FilesError::NotRead { file }) => Err(unread_refusal_by_place(alloc, names, file)),
+        Err(FilesError::Memory) => Err(Refusal::Memory),
+    }
+}
+
 /// Reads the ephemeris in the files of these names, in their order. The error names the first file that has a fault or
 /// cannot be read, or is out of memory. Without a name, or with too many, no file is opened.
 pub(crate) fn ephemeris_of_files<S: Shelf>(
@@ -75,16 +107,8 @@ pub(crate) fn ephemeris_of_files<S: Shelf>(
     ensures files { S.files shelf.new ≡ S.files shelf.old }
     ensures later { S.faults shelf.old ≤ S.faults shelf.new }
 {
-    if names.is_empty() {
-        return Err(Refusal::Words {
-            number: WORDS,
-            option: None,
-        });
-    }
-    match read_files(alloc, shelf, names) {
-        Ok(found) => Ok(found.ephemeris),
-        Err(FilesError::Fault { file, fault }) => Err(refusal_by_place(alloc, names, file, fault)),
-        Err(FilesError::NotRead { file }) => Err(unread_refusal_by_place(alloc, names, file)),
-        Err(FilesError::Memory) => Err(Refusal::Memory),
+    match store_of_files(alloc, Rounding::AtOnce, shelf, names) {
+        Ok(store) => Ok(store.finish()),
+        Err(refusal) => Err(refusal),
     }
 }

@@ -25,4 +25,4 @@ pub use scalar_lines::scalar_report;
 pub use set_lines::set_report;
 pub use spec_requests::{FindAsk, Relation, ScalarAsk};
 pub use spec_times::TimeFault;
-pub use summary_lines::summary;
+pub use summary_lines::{summary, summary_of_store};

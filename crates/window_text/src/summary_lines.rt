@@ -1,15 +1,16 @@
 // The text about an ephemeris, which `check` prints. Calls that append fail only if memory runs out.
-ghost use Rattle.std.specs.Prelude.{◌≡◌, ◌<◌, ◌++◌, None, IfOk, OnOk, string_bytes};
+ghost use Rattle.std.specs.Prelude.{◌≡◌, ◌<◌, ◌++◌, codes, None, IfOk, OnOk, string_bytes};
+ghost use Rattle.std.specs.Fmt.{decimal, signed_decimal};
 ghost use Rattle.spec_ephemeris.specs.Ephemeris.{end_of};
-ghost use Rattle.spec_output.specs.Summary.{column_line, column_lines, column_name, ephemeris_line, line_if_present, name_of_column, sizes_of, summary};
+ghost use Rattle.spec_output.specs.Summary.{column_line, column_lines, column_name, line_if_present, name_of_column, summary};
 ghost use Rattle.spec_times.specs.Calendar.{time_text};
 ghost use Rattle.spec_times.specs.TimeWords.{IsTime};
 
 use crate::Memory;
 use crate::pieces::{add_last_number, add_name_and_value, add_number};
 use crate::printing::add_time;
-use eph_model::Ephemeris;
-use spec_ephemeris::{Column, MAX_COLUMNS, NUTATIONS, READ_COLUMNS};
+use eph_model::{BlockStore, Ephemeris};
+use spec_ephemeris::{Column, Header, MAX_COLUMNS, NUTATIONS, READ_COLUMNS};
 use spec_output::COLUMN_BODIES;
 use spec_requests::body_name;
 use std::alloc::{AllocError, Global};
@@ -22,22 +23,37 @@ pub fn summary(alloc: Global, ephemeris: &Ephemeris) -> Result<Vec<u8>, Memory>
     ensures { IfOk result (λ text. text.items ≡ summary ephemeris.now) }
 {
     let mut text = String::new(alloc);
-    add_ephemeris_line(&mut text, ephemeris)?;
-    add_columns(&mut text, ephemeris.header().columns.as_slice())?;
+    let header = ephemeris.header();
+    add_span(&mut text, ephemeris.start(), ephemeris.end())?;
+    add_sizes(&mut text, header, ephemeris.blocks())?;
+    add_columns(&mut text, header.columns.as_slice())?;
     Ok(text.into_bytes())
 }
 
-// Appends the first line of a summary: start and end of an ephemeris that counts seconds, as calendar texts, and its
-// sizes. The only error is out of memory.
-fn add_ephemeris_line(text: &mut String, ephemeris: &Ephemeris) -> Result<(), AllocError>
-    requires start { IsTime ephemeris.now.start }
-    requires end { IsTime (end_of ephemeris.now) }
-    ensures { OnOk result (string_bytes text.new
-        ≡ string_bytes text.old ++ ephemeris_line ephemeris.now) }
+/// Returns the summary of the ephemeris whose blocks a store has. The only error is out of memory.
+pub fn summary_of_store(alloc: Global, store: &BlockStore) -> Result<Vec<u8>, Memory>
+    requires start { IsTime store.now.accepted.start }
+    requires end { IsTime (end_of store.now.accepted) }
+    ensures { IfOk result (λ text. text.items ≡ summary store.now.accepted) }
 {
-    add_named_time(text, "CHECK start ", ephemeris.start())?;
-    add_named_time(text, " end ", ephemeris.end())?;
-    add_sizes(text, ephemeris)
+    let mut text = String::new(alloc);
+    let header = store.header();
+    add_span(&mut text, store.start(), store.end())?;
+    add_sizes(&mut text, header, store.blocks())?;
+    add_columns(&mut text, header.columns.as_slice())?;
+    Ok(text.into_bytes())
+}
+
+// Appends the start and the end of an ephemeris, in seconds since J2000 in TDB, as calendar texts. The only error is
+// out of memory.
+fn add_span(text: &mut String, start: i64, end: i64) -> Result<(), AllocError>
+    requires start { IsTime start }
+    requires end { IsTime end }
+    ensures { OnOk result (string_bytes text.new ≡ string_bytes text.old
+        ++ (codes "CHECK start " ++ time_text start ++ (codes " end " ++ time_text end))) }
+{
+    add_named_time(text, "CHECK start ", start)?;
+    add_named_time(text, " end ", end)
 }
 
 // Appends a name, and the calendar text of a time in seconds since J2000 in TDB. The only error is out of memory.
@@ -50,15 +66,16 @@ fn add_named_time(text: &mut String, name: &str, time: i64) -> Result<(), AllocE
     add_time(text, time)
 }
 
-// Appends the sizes of an ephemeris, which end the line: the seconds of a block, the number of blocks, and the number
-// of coefficients in a block (NCOEFF). The only error is out of memory.
-fn add_sizes(text: &mut String, ephemeris: &Ephemeris) -> Result<(), AllocError>
-    ensures { OnOk result
-        (string_bytes text.new ≡ string_bytes text.old ++ sizes_of ephemeris.now) }
+// Appends the sizes of an ephemeris with this header, which end the line: the seconds of a block, the number of blocks,
+// and the number of coefficients in a block (NCOEFF). The only error is out of memory.
+fn add_sizes(text: &mut String, header: &Header, blocks: u32) -> Result<(), AllocError>
+    ensures { OnOk result (string_bytes text.new ≡ string_bytes text.old
+        ++ (codes " block " ++ signed_decimal header.now.block_seconds
+        ++ (codes " blocks " ++ decimal blocks)
+        ++ (codes " ncoeff " ++ decimal header.now.ncoeff ++ codes "\n"))) }
 {
-    let header = ephemeris.header();
     add_number(text, " block ", header.block_seconds)?;
-    add_number(text, " blocks ", ephemeris.blocks() as u64)?;
+    add_number(text, " blocks ", blocks as u64)?;
     add_last_number(text, " ncoeff ", header.ncoeff as u64, "\n")
 }
 

@@ -4,7 +4,7 @@ use Rattle.gf_files.proofs.reader.begin_blocks.Goals as goal
 
 pub returns : goal.returns
 returns c = λ old moves.
-    blocks_begin old c.args.line.now c.args.header c.in_ok-header.header c.new.result _ c.requires.whole c.in_ok-header.ensures.end moves c.new.ensures.blocks c.new.ensures.not_refused
+    blocks_begin old c.args.line.now c.args.header c.in_ok-header.header c.with_rounding.result _ c.requires.whole c.in_ok-header.ensures.end moves c.with_rounding.ensures.blocks c.with_rounding.ensures.not_refused
 
 pub returns-in_err-header : goal.returns-in_err-header
 returns-in_err-header c = λ old moves.

@@ -6,7 +6,7 @@ use Rattle.eph_model.proofs.store.BlockStore.close_block.Goals as goal
 pub invariant_of-self : goal.invariant_of-self
 invariant_of-self c =
     let e = c.self.inside in
-    (closed_checked e.header e.start e.blocks e.numbers.items c.self.invariant.0 (rw (← c.self.view_is) at c.requires.block) (rw (← c.self.view_is) at c.requires.room), c.self.invariant.1)
+    (closed_checked e.header e.start e.blocks e.numbers.items c.self.invariant.0 (rw (← c.self.view_is) at c.requires.block) (rw (← c.self.view_is) at c.requires.room), c.self.invariant.1, c.self.invariant.2)
 
 pub returns : goal.returns
 returns c =

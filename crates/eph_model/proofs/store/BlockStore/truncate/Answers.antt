@@ -1,7 +1,7 @@
 use Rattle.std.proofs.Common.{◌≡◌, ◌∙◌, ◌+◌, ◌-◌, ◌*◌, ◌≤◌, rules, arith, ap, length, drop}
-use Rattle.std.proofs.lemmas.List.{length-drop}
+use Rattle.std.proofs.lemmas.List.{length-drop, length-take}
 use Rattle.eph_model.specs.Stores.{Store, cut_to}
-use Rattle.eph_model.proofs.PairLists.{pairs_take}
+use Rattle.eph_model.proofs.PairLists.{begun_take}
 use Rattle.eph_model.proofs.StoreLists.{cut_checked, numbers_cut, within}
 use Rattle.eph_model.proofs.store.BlockStore.truncate.Goals as goal
 use Rattle.eph_model.proofs.store.BlockStore.truncate.Goals.{After-truncate}
@@ -23,7 +23,9 @@ invariant_of-self c =
     let e = c.self.inside in
     let is = kept (goal.at.invariant_of-self c).After-truncate in (
       rw (c.truncate.ensures.items, is) (cut_checked e.header e.start e.blocks e.numbers.items c.self.invariant.0 c.args.count),
-      rw (c.truncate.ensures.items, c.truncate-2.ensures.items) (pairs_take _ e.numbers.items e.pairs.items c.self.invariant.1),
+      rw (c.truncate.ensures.items, c.truncate-2.ensures.items) (begun_take _ e.numbers.items e.pairs.items c.self.invariant.1),
+      rw (c.truncate.ensures.items, c.truncate-2.ensures.capacity)
+          (let size = length-take (c.len.result - (c.count.result - c.args.count)) e.numbers.items in let room = c.self.invariant.2 in omega (arith, size, room)),
     )
 
 pub returns : goal.returns

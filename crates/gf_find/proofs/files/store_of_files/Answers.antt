@@ -1,7 +1,7 @@
 use Rattle.std.proofs.Common.{Err, arith, string_bytes}
 use Rattle.std.proofs.lemmas.List.{length-map}
 use Rattle.gf_find.proofs.Causes.{lacking_stops, missing_inside, refused_inside, refused_stops}
-use Rattle.gf_find.proofs.files.ephemeris_of_files.Goals as goal
+use Rattle.gf_find.proofs.files.store_of_files.Goals as goal
 
 pub refusal_by_place-requires : goal.refusal_by_place-requires
 refusal_by_place-requires g c =

@@ -7,13 +7,13 @@ use Rattle.spec_files.specs.declared.errors.ReadError.{ReadError}
 use Rattle.gf_files.specs.declared.errors.FilesError.TheVariants as all
 use Rattle.gf_files.proofs.InFile.{fault_of_file}
 use Rattle.gf_files.proofs.NameLists.{accepted_at_end, refused_at_end, texts_of}
-use Rattle.gf_files.proofs.files.read_files.Goals as goal
+use Rattle.gf_files.proofs.files.read_store.Goals as goal
 
 pub returns-in-Ok-clause-accepted : goal.returns-in-Ok-clause-accepted
 returns-in-Ok-clause-accepted g c =
     let many = length-map c.args.names.now string_bytes in
     let few : length (texts_of c.args.names.now) ≤ 64 = omega (arith, many, c.if-names-gt-MAX_FILES.false) in
-    accepted_at_end _ _ c.in_ok-fed.fed.reader c.in_ok-fed.fed.end_line c.in-Ok.ephemeris few c.in_ok-fed.ensures.fed c.in-Ok.ensures
+    accepted_at_end _ _ c.in_ok-fed.fed.reader c.in_ok-fed.fed.end_line c.in-Ok.store.accepted few c.in_ok-fed.ensures.fed c.in-Ok.ensures
 
 pub returns-in-Err-clause-fault : goal.returns-in-Err-clause-fault
 returns-in-Err-clause-fault g c = λ file fault is.

@@ -60,22 +60,24 @@ fn next_time(waiting: &[Node], upto: i64) -> i64 {
 }
 
 /// Reads lines of leaves up to the end of a certificate, as `read_to_end` does, by the still spans of the search from
-/// the node that comes next up to a time. Where these do not say what a mark has to be, the judge does. The error is
-/// the first line that breaks a rule, or out of memory.
-pub(crate) fn read_by_stills(
+/// the node that comes next up to a time. Where these do not say what a mark has to be, `plain` does, a judge of the
+/// same search. The error is the first line that breaks a rule, or out of memory.
+pub(crate) fn read_by_stills<P: Judge>(
     alloc: Global,
     judge: &EventJudge<'_>,
+    plain: &P,
     upto: i64,
     waiting: &mut Vec<Node>,
     found: &mut Vec<Leaf>,
     lines: &mut Tokens<'_>,
 ) -> Result<(), CertError>
-    requires { AreValid (rules judge.now.search) waiting.old.items }
+    requires rules { P.rules plain.now ≡ rules judge.now.search }
+    requires waiting { AreValid (rules judge.now.search) waiting.old.items }
     ensures { Gives (λ _. found.new.items)
         (coming judge.now.search found.old.items waiting.old.items lines.old) result }
 {
     let stills = still_list(alloc, &judge.search, next_time(waiting, upto), upto)?;
-    let Ok(signs) = SignJudge::new(alloc, judge, &judge.search, &stills) else {
+    let Ok(signs) = SignJudge::new(alloc, plain, &judge.search, &stills) else {
         return Err(CertError::Memory);
     };
     read_by_list(judge, &signs, &stills, waiting, found, lines)

@@ -14,6 +14,7 @@ mod checking;
 mod errors;
 mod laws;
 mod leaves;
+mod lent_judge;
 mod lines;
 mod places;
 mod stages;

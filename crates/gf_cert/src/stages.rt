@@ -1,5 +1,5 @@
 // The leaves that a certificate names, after its first two lines: some by the judge alone, the others by still spans.
-ghost use Rattle.std.specs.Prelude.{◌∷◌, [], IfOk};
+ghost use Rattle.std.specs.Prelude.{◌≡◌, ◌∷◌, [], IfOk};
 ghost use Rattle.spec_trees.specs.Tree.{IsValid};
 ghost use Rattle.spec_searches.specs.Found.{rules};
 ghost use Rattle.spec_certificates.specs.Checks.{leaves_from};
@@ -10,8 +10,9 @@ ghost use Rattle.gf_cert.specs.Steps.{AreValid, Reads, coming};
 use crate::by_stills::read_by_stills;
 use crate::errors::CertError;
 use crate::leaves::read_next_line;
+use crate::lent_judge::LentJudge;
 use de_text::Tokens;
-use event_judge::{EventJudge, Node};
+use event_judge::{EventJudge, Judge, Node};
 use spec_trees::Leaf;
 use std::alloc::Global;
 
@@ -20,21 +21,23 @@ use std::alloc::Global;
 const LEAVES_BEFORE_STILLS: u32 = 64;
 
 // Reads the first lines of leaves, at most as many as are judged without still spans. Returns whether the end is among
-// them. The error is the first line that breaks a rule, or out of memory.
-fn read_first_lines(
+// them. `plain` is a judge of the same search, and says what marks have to be. The error is the first line that breaks a rule, or out of memory.
+fn read_first_lines<P: Judge>(
     judge: &EventJudge<'_>,
+    plain: &P,
     waiting: &mut Vec<Node>,
     found: &mut Vec<Leaf>,
     lines: &mut Tokens<'_>,
 ) -> Result<bool, CertError>
-    requires { AreValid (rules judge.now.search) waiting.old.items }
+    requires rules { P.rules plain.now ≡ rules judge.now.search }
+    requires waiting { AreValid (rules judge.now.search) waiting.old.items }
     ensures read { Reads (coming judge.now.search found.old.items waiting.old.items lines.old)
         (coming judge.now.search found.new.items waiting.new.items lines.new)
         found.new.items result }
     ensures waiting { IfOk result (λ _. AreValid (rules judge.now.search) waiting.new.items) }
 {
     for _ in 0..LEAVES_BEFORE_STILLS {
-        let ended = read_next_line(judge, judge, waiting, found, lines)?;
+        let ended = read_next_line(judge, plain, waiting, found, lines)?;
         if ended {
             return Ok(true);
         }
@@ -55,14 +58,23 @@ pub(crate) fn read_leaves(
         (leaves_from (cutting judge.now.search) lines.old.end_line (root ∷ []) 0 lines.old.left)
         result }
 {
+    let plain = LentJudge { judge };
     let mut waiting = Vec::new(alloc);
     waiting.push(root)?;
     let mut found = Vec::new(alloc);
-    let ended = read_first_lines(judge, &mut waiting, &mut found, lines)?;
+    let ended = read_first_lines(judge, &plain, &mut waiting, &mut found, lines)?;
     if ended {
         return Ok(found);
     }
-    match read_by_stills(alloc, judge, root.b, &mut waiting, &mut found, lines) {
+    match read_by_stills(
+        alloc,
+        judge,
+        &plain,
+        root.b,
+        &mut waiting,
+        &mut found,
+        lines,
+    ) {
         Ok(()) => Ok(found),
         Err(error) => Err(error),
     }

@@ -30,14 +30,14 @@ returns-in-Err-place_leaf-clause-read g c =
     fails_so _ _ c.in-Err-place_leaf.error
     (bad_leaf (cutting c.args.judge.now.search) c.args.lines.now.end_line c.args.found.now.items (reverse c.args.waiting.now.items) c.args.lines.now.left _ _ next) c.in-Err-place_leaf.ensures.place
 
-pub returns-in-Ok-clause-read : goal.returns-in-Ok-clause-read
-returns-in-Ok-clause-read g c =
+pub returns-in_ok-push-in-Ok-Some-default-Leaf-clause-read : goal.returns-in_ok-push-in-Ok-Some-default-Leaf-clause-read
+returns-in_ok-push-in-Ok-Some-default-Leaf-clause-read g c =
     let s = c.args.judge.now.search in
     let next = known_next c.args.lines.now.left c.next_entry.ensures.entry c.in-Ok-Some-default-Leaf.is c.in-Ok-Some-default-Leaf.field-0-is c.in-Ok-Some-default-Leaf.field-0-0-1-is in
     let more = c.push.new.self.items in
     sym ((λ i. fronted more (leaves_from (cutting s) (c.next_entry.ensures.end i) (reverse c.place_leaf.new.waiting.items) (length more) (c.in-Ok-Some-default-Leaf.ensures.left i)))
     ∙ good_leaf (cutting s) c.args.lines.now.end_line c.args.found.now.items (reverse c.args.waiting.now.items) c.args.lines.now.left _ _ next
-    (reverse c.place_leaf.new.waiting.items) more c.in-Ok.ensures.place c.in_ok-push.ensures.items)
+    (reverse c.place_leaf.new.waiting.items) more c.in-Ok.ensures.place c.in_ok-push-in-Ok-Some-default-Leaf.ensures.items)
 
 pub returns-then-not-is_end_allowed-clause-read : goal.returns-then-not-is_end_allowed-clause-read
 returns-then-not-is_end_allowed-clause-read g c =

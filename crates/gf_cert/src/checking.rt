@@ -13,8 +13,9 @@ ghost use Rattle.gf_cert.specs.Answers.{Gives};
 ghost use Rattle.gf_cert.specs.Search.{cutting};
 
 use crate::errors::CertError;
-use crate::leaves::{read_leaves, refusal_of_fault};
+use crate::leaves::refusal_of_fault;
 use crate::lines::check_words;
+use crate::stages::read_leaves;
 use de_text::Tokens;
 use event_judge::{EventJudge, Node};
 use spec_faults::{CERT_LINE, CERT_REQUEST};

@@ -83,15 +83,18 @@ fn cut_down_to(
 }
 
 /// Checks that a leaf, which the line `line` states, comes next, and takes it from the stack of waiting nodes, whose
-/// last is the next one. That node is cut until it is the leaf's. The error is that no node waits, that cutting does
-/// not lead to the leaf, that its mark is not that of the verdict, or out of memory.
-pub(crate) fn place_leaf(
+/// last is the next one. That node is cut until it is the leaf's, and `marking`, a judge of the same search, says what
+/// its mark has to be. The error is that no node waits, that cutting does not lead to the leaf, that its mark is not
+/// that of the verdict, or out of memory.
+pub(crate) fn place_leaf<J: Judge>(
     judge: &EventJudge<'_>,
+    marking: &J,
     waiting: &mut Vec<Node>,
     leaf: Leaf,
     line: u32,
 ) -> Result<(), CertError>
-    requires { AreValid (rules judge.now.search) waiting.old.items }
+    requires rules { J.rules marking.now ≡ rules judge.now.search }
+    requires waiting { AreValid (rules judge.now.search) waiting.old.items }
     ensures place { Gives (λ _. reverse waiting.new.items)
         (leaf_at (cutting judge.now.search) line (reverse waiting.old.items) leaf) result }
     ensures valid { IfOk result (λ _. AreValid (rules judge.now.search) waiting.new.items) }
@@ -100,7 +103,7 @@ pub(crate) fn place_leaf(
         return Err(fault_at(line, CERT_END).into());
     };
     cut_down_to(judge, waiting, first, leaf.node, line)?;
-    if is_mark_of_leaf(judge.judge(leaf.node).mark(), leaf.mark) {
+    if is_mark_of_leaf(marking.judge(leaf.node).mark(), leaf.mark) {
         Ok(())
     } else {
         Err(fault_at(line, CERT_MARK).into())

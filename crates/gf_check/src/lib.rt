@@ -2,7 +2,7 @@
 //! of, their span and the judge of their query; out go the bytes that `verify` prints, which are the report of the
 //! certificate's windows and how many leaves it has, or the first line that breaks a rule.
 //!
-//! Whoever made the text is not trusted, and nothing below this crate searches: no pool, no ledger, no walk of a tree.
+//! Whoever made the text is not trusted, and nothing below this crate walks a tree: no pool, no ledger.
 #![tactic(auto)]
 
 mod checks;

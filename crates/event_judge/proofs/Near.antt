@@ -87,8 +87,10 @@ module _ (s : Search) (is : IsView s.view) (n : Node) (valid : IsValid (rules s)
       let high = b_high (rules s) (rules_are_sound s is) n valid in
       fits_signed_from_abs w64 border (omega (arith, ints, after, upto, low, high))
 
-  pub cut_inside : may_be_cut s n ≡ true → CanCut n.a n.b
-  cut_inside may = can_cut s is n valid (and_parts (is_wide n) _ may).0
+  pub cut_inside : may_be_cut s n ≡ true → CanCut (to_z w64 (of_z w64 n.a)) (to_z w64 (of_z w64 n.b))
+  cut_inside may =
+      let sound = rules_are_sound s is in
+      rw (to_z-of_z w64 n.a (a_fits (rules s) sound n valid), to_z-of_z w64 n.b (b_fits (rules s) sound n valid)) (can_cut s is n valid (and_parts (is_wide n) _ may).0)
 
   -- where no border falls into it, it is not as deep as the depth
   pub deeper : may_be_cut s n ≡ true → border_in s n ≡ None → n.depth < s.depth

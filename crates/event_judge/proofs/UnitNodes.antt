@@ -37,7 +37,7 @@ by_ends false false wide refuted one_way true narrow differs certified one limit
 by_ends false false wide refuted one_way false narrow differs certified one limit w r n c t d = rw (w, r, n, c, d refl) refl
 
 -- a node that is not wide is no wider than any width
-is_no_wider : (a b : ℤ) (least : ℕ) → a <ℤ b → 0 < least → int_lt (pos 1) (b -ℤ a) ≡ false → nat_le (unsigned_abs (b -ℤ a)) least ≡ true
+pub is_no_wider : (a b : ℤ) (least : ℕ) → a <ℤ b → 0 < least → int_lt (pos 1) (b -ℤ a) ≡ false → nat_le (unsigned_abs (b -ℤ a)) least ≡ true
 is_no_wider a b least inside some narrow = grind (arith, ints)
 
 module _ (s : Search) (n : Node) (is : IsSearch s) (valid : IsValid (rules s) n) (plain : IsPlainUnit s n)

@@ -67,11 +67,12 @@ impl<'e> EventJudge<'e> {
         requires may { may_be_cut self.now.search node ≡ true }
         ensures { result ≡ parts self.now.search node }
     {
+        self.search.is_search();
         ValidNode {
             search: &self.search,
             node,
         }
-        .parts_by_cutter(&self.cutter)
+        .parts_at_border_or(self.cutter.cut(node.a, node.b))
     }
 
     /// States that the search's rules are sound, that a node that is split may be cut, and that its parts, if it is
@@ -110,11 +111,7 @@ impl<'e> Judge for EventJudge<'e> {
 
     // Returns the parts of a node that is split: cut at the border in it, or by the cutter if there is none.
     fn cut(&self, node: Node) -> (Node, Node) {
-        ValidNode {
-            search: &self.search,
-            node,
-        }
-        .parts_by_cutter(&self.cutter)
+        self.parts(node)
     }
 
     ghost sound = { λ judge. judge.sound };

@@ -1,12 +1,13 @@
 // The parts of a node that is cut.
 ghost use Rattle.std.specs.Prelude.{◌≡◌, ◌≤◌, ◌^◌, ◌≤ℤ◌, pos, neg_ℤ, true};
+ghost use Rattle.spec_trees.specs.Cuts.{cut_of};
 ghost use Rattle.spec_trees.specs.Tree.{IsValid};
 ghost use Rattle.spec_searches.specs.Found.{rules};
 ghost use Rattle.spec_searches.specs.Search.{border_cut, may_be_cut, parts, parts_at};
 
 use crate::event_search::EventSearch;
 use crate::valid_node::ValidNode;
-use gf_hooks::{Cutter, Node, rule_cut};
+use gf_hooks::{Node, rule_cut};
 use spec_searches::laws::searches_are_sound;
 
 // Returns the two parts of a node that is cut at a time, both with the given depth.
@@ -40,11 +41,11 @@ fn cut_time_at_border(node: Node, border: i64) -> i64
 }
 
 impl<'s, 'e> ValidNode<'s, 'e> {
-    /// Returns the parts of a node that may be cut: at the border in it, at the node's depth; or, if there is none,
-    /// where the cutter says, one deeper. The values that are not used are read for what the calls ensure.
-    pub(crate) fn parts_by_cutter(self, cutter: &Cutter) -> (Node, Node)
-        requires rule { cutter.now.rule ≡ self.search.now.cut }
+    /// Returns the parts of a node that may be cut: at the border in it, at the node's depth; or, if there is none, at
+    /// the time of the search's rule, one deeper. The values that are not used are read for what the calls ensure.
+    pub(crate) fn parts_at_border_or(self, time: i64) -> (Node, Node)
         requires may { may_be_cut self.search.now self.node ≡ true }
+        requires time { time ≡ cut_of self.search.now.cut self.node.a self.node.b }
         ensures { result ≡ parts self.entry.search.now self.entry.node }
     {
         let node = self.node;
@@ -52,26 +53,7 @@ impl<'s, 'e> ValidNode<'s, 'e> {
         let _deepest = self.search.depth();
         match self.nearest_border() {
             Some(border) => parts_cut_at(cut_time_at_border(node, border), node.depth, node),
-            None => parts_cut_at(cutter.cut(node.a, node.b), node.depth + 1, node),
-        }
-    }
-
-    // Returns the parts of a node that may be cut: at the border in it, at the node's depth; or, if there is none, by
-    // the rule of the search, one deeper. The values that are not used are read for what the calls ensure.
-    fn parts_by_rule(self) -> (Node, Node)
-        requires { may_be_cut self.search.now self.node ≡ true }
-        ensures { result ≡ parts self.entry.search.now self.entry.node }
-    {
-        let node = self.node;
-        let _columns = self.search.states().columns();
-        let _deepest = self.search.depth();
-        match self.nearest_border() {
-            Some(border) => parts_cut_at(cut_time_at_border(node, border), node.depth, node),
-            None => parts_cut_at(
-                rule_cut(self.search.rule(), node.a, node.b),
-                node.depth + 1,
-                node,
-            ),
+            None => parts_cut_at(time, node.depth + 1, node),
         }
     }
 }
@@ -85,6 +67,6 @@ impl<'e> EventSearch<'e> {
     {
         self.is_search();
         searches_are_sound();
-        ValidNode { search: self, node }.parts_by_rule()
+        ValidNode { search: self, node }.parts_at_border_or(rule_cut(self.rule(), node.a, node.b))
     }
 }

@@ -12,22 +12,6 @@ use gf_hooks::{Judge, Node, Verdict, rules_are_sound};
 use std::alloc::{AllocError, Global};
 use std::marker::PhantomData;
 
-impl<'j, 'e, N: Naming, J: Judge> NamedJudge<'j, 'e, N, J> {
-    // Keeps a judge together with its search, which a call has named and whose rules the judge has.
-    fn new(judge: &'j J, search: &'j EventSearch<'e>) -> NamedJudge<'j, 'e, N, J>
-        requires named { search.now ≡ N.search }
-        requires rules { J.rules judge.now ≡ rules search.now }
-        ensures { J.rules result.judge.now ≡ J.rules judge.now }
-    {
-        rules_are_sound(judge);
-        NamedJudge {
-            judge,
-            search,
-            of: PhantomData,
-        }
-    }
-}
-
 impl<'j, 'e, N: Naming, J: Judge> RememberingJudge<'j, 'e, N, J> {
     /// Makes a judge that says what `judge` does, and remembers nothing yet. The only error is out of memory.
     pub fn new(
@@ -40,7 +24,12 @@ impl<'j, 'e, N: Naming, J: Judge> RememberingJudge<'j, 'e, N, J> {
         ensures { IfOk result (λ made. J.rules made.named.judge.now ≡ J.rules judge.now) }
     {
         let memory = Memory::new(alloc)?;
-        let named = NamedJudge::new(judge, search);
+        rules_are_sound(judge);
+        let named = NamedJudge {
+            judge,
+            search,
+            of: PhantomData,
+        };
         Ok(RememberingJudge { named, memory })
     }
 }

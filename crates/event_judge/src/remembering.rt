@@ -4,7 +4,6 @@ ghost use Rattle.spec_events.specs.Verdict.{differ, is_known};
 ghost use Rattle.spec_searches.specs.Search.{crosses, verdict_of};
 ghost use Rattle.spec_bounds.specs.Steady.{sign_at};
 ghost use Rattle.event_judge.specs.Found.{whole_enclosure};
-ghost use Rattle.spec_trees.specs.Cuts.{is_wide};
 ghost use Rattle.event_judge.specs.Plain.{IsByKnownEnds, IsPlain, IsPlainUnit};
 
 use crate::memory::Memory;
@@ -33,15 +32,6 @@ impl<'s, 'e> ValidNode<'s, 'e> {
             && self.is_wide()
             && !self.is_narrow()
             && self.nearest_border().is_none()
-    }
-
-    // Tells whether the node is one tick wide and the event has no conditions, so that signs at its ends may tell its
-    // verdict.
-    fn needs_only_end_signs(self) -> bool
-        ensures guards { IsTrue result → self.entry.search.now.event.conditions ≡ [] }
-        ensures unit { IsTrue result → is_wide self.entry.node ≡ false }
-    {
-        !self.is_wide() && self.has_no_guard()
     }
 
     // Tells whether the event has no conditions.
@@ -180,7 +170,7 @@ impl<N: Naming> Memory<N> {
         requires uncrossed { crosses node.search.now node.node ≡ false }
         ensures { result ≡ verdict_of N.search node.entry.node }
     {
-        if node.needs_only_end_signs() {
+        if !node.is_wide() && node.has_no_guard() {
             self.unit_verdict(node)
         } else if self.expects_turn() && node.needs_only_limits() && self.has_wanted_turn(node) {
             self.verdict_by_turn(node)

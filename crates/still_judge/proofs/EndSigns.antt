@@ -1,11 +1,10 @@
 -- Signs at the ends of a node tell its verdict, whether a border falls into it or not: a node one unit wide is clear if they
 -- show no wanted turn, and holds one if they show one and each condition is certified at its last time; a node above the limits
 -- is split if they show one and each condition is certified at one of its times.
-use Rattle.std.proofs.Common.{◌≡◌, ℕ, ◌<◌, Bool, true, false, ◌&&◌, nat_lt, nat_le, int_lt, List, [], ◌∷◌, ◌++◌, length, All, get_or, ℤ, ◌≤ℤ◌, pos, ◌-ℤ◌, ◌<ℤ◌, unsigned_abs, refl, sym, ap, subst, ◌∙◌, arith}
+use Rattle.std.proofs.Common.{◌≡◌, ℕ, ◌<◌, Bool, true, false, ◌&&◌, nat_lt, nat_le, List, [], ◌∷◌, ◌++◌, length, All, get_or, ℤ, ◌≤ℤ◌, refl, sym, ap, subst, ◌∙◌, arith}
 use Rattle.std.specs.Prelude.{if◌then◌else◌, int_le}
 use Rattle.std.specs.List.{list_all, list_any}
 use Rattle.std.proofs.lemmas.Bool.{and_parts, false≢true, false_from_ne_true}
-use Rattle.std.proofs.lemmas.Int.{ints}
 use Rattle.std.proofs.lemmas.List.Elements.{All-push}
 use Rattle.spec_intervals.specs.declared.signs.Sign.{Sign}
 use Rattle.spec_intervals.specs.Signs.{sign_of}
@@ -26,14 +25,11 @@ use Rattle.spec_bounds.proofs.Limits.{verdict_by_limits}
 use Rattle.spec_bounds.proofs.Staged.{found_at, sound_at, stages_of}
 use Rattle.spec_bounds.proofs.Turns.{turnless_by_ends}
 use Rattle.spec_stills.proofs.Sound.{wide_above}
+use Rattle.event_judge.proofs.UnitNodes.{is_no_wider}
 use Rattle.still_judge.specs.EndSigns.{AreCertifiedAt, AreCertifiedIn, HasEndSigns}
 use Rattle.still_judge.proofs.Cleared.{no_later}
 
 -- ---- plain tests
--- a unit is no wider than any width
-narrow_unit : (a b : ℤ) (most : ℕ) → a <ℤ b → 0 < most → int_lt (pos 1) (b -ℤ a) ≡ false → nat_le (unsigned_abs (b -ℤ a)) most ≡ true
-narrow_unit a b most inside some narrow = grind (arith, ints)
-
 -- what is wider than the width is not narrow
 wider_is : (w most : ℕ) → nat_lt most w ≡ true → nat_le w most ≡ false
 wider_is w most wider = grind arith
@@ -135,7 +131,7 @@ module _ (s : Search) (n : Node) (first last : Sign) (is : IsSearch s) (signs : 
           ∙ unit_is_one (crosses s n) (is_turnless dir found.over found.step) (is_wide n) (list_any is_refuted found.guards)
           (has_no_turn dir found.at_first found.at_last) (nat_le (width n) s.width) (differ dir found.at_first found.at_last)
           (list_all is_certified found.guards) _ (One (turn_to found.at_last)) (limit_verdict (criteria s) n)
-          narrow not_refuted turn.2 (narrow_unit n.a n.b s.width signs.valid.inside is.some_width narrow) found_differ certified not_turnless
+          narrow not_refuted turn.2 (is_no_wider n.a n.b s.width signs.valid.inside is.some_width narrow) found_differ certified not_turnless
           ∙ (λ i. One (turn_to (signs.at_last i)))
         where
           found_differ : differ dir found.at_first found.at_last ≡ true

@@ -10,6 +10,7 @@ use Rattle.spec_intervals.specs.Interval.{Interval, cosine_exponent, decimal_bot
 use Rattle.spec_intervals.specs.Signs.{sign_of}
 use Rattle.spec_intervals.proofs.Decimals.{bottom_pos}
 use Rattle.spec_intervals.proofs.Narrow.{narrow_of_zero, zero_ends}
+use Rattle.spec_expressions.proofs.Zeros.{product_of_zero}
 
 nothing_times : (z : ℤ) → pos 0 *ℤ z ≡ pos 0
 nothing_times z = ring (z ∷ []) (lit (pos 0) ⊗ v 0) (lit (pos 0)) tt
@@ -30,10 +31,6 @@ zero_squared : (s : ℤ) → signed_square (interval (pos 0) (pos 0) s) ≡ zero
 unfolding signed_square
 zero_squared s = narrow_of_zero (s +ℤ s)
 
-zero_times : (x : Interval) → product zero_interval x ≡ zero_interval
-unfolding product
-zero_times x = rw (nothing_times x.lo, nothing_times x.hi) (narrow_of_zero (pos 0 +ℤ x.s))
-
 -- less 0
 zero_taken : (x : Interval) → sign_of (difference x zero_interval) ≡ sign_of x
 unfolding difference sum
@@ -49,4 +46,4 @@ rest_taken d x y none =
     ap (λ m. sign_of (difference x (product (signed_square (from_decimal m d.exp cosine_exponent)) y))) none
     ∙ (ap (λ z. sign_of (difference x (product (signed_square z) y))) (zero_decimal d.exp cosine_exponent)
     ∙ (ap (λ z. sign_of (difference x (product z y))) (zero_squared cosine_exponent)
-    ∙ (ap (λ z. sign_of (difference x z)) (zero_times y) ∙ zero_taken x)))
+    ∙ (ap (λ z. sign_of (difference x z)) (product_of_zero y) ∙ zero_taken x)))

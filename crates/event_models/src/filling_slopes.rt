@@ -1,5 +1,5 @@
 // The row of the multiples k U_(k-1), over which velocities are summed.
-ghost use Rattle.std.specs.Prelude.{◌≤◌, ◌<◌, ◌-◌};
+ghost use Rattle.std.specs.Prelude.{◌≤◌, ◌<◌};
 ghost use Rattle.event_models.specs.declared.rows.Kind.TheVariants.{Second};
 ghost use Rattle.event_models.specs.Rows.{AreEntriesBefore, AreRows, AreSumRows, IsLine, IsSumRow};
 ghost use Rattle.event_models.specs.Slopes.{AreEntriesSlope, IsEntrySlope};
@@ -8,7 +8,8 @@ use crate::filling::write_entries;
 use crate::multiples::{entry_multiple, zero_entry};
 use crate::rows::{ENTRIES, Kind, Line, RowModel};
 
-/// Writes models of `k U_(k-1)`, the derivative of `T_k`, for `k` below `n`, at most 32, over a line of arguments.
+/// Writes models of `k U_(k-1)`, the derivative of `T_k`, for `k` below `n`, at most 32, over a line of arguments: in
+/// the place of those of U, from the last to the first, so that each is made of an entry that is not replaced yet.
 pub(crate) fn write_slope_entries(line: &Line, n: usize, rows: &mut [RowModel; ENTRIES])
     requires line { IsLine line.now }
     requires some { 1 ≤ n }
@@ -17,18 +18,6 @@ pub(crate) fn write_slope_entries(line: &Line, n: usize, rows: &mut [RowModel; E
     ensures entries { AreEntriesSlope line.now n rows.new }
 {
     write_entries(Kind::Second, line, n - 1, rows);
-    replace_by_slopes(line, n, rows);
-}
-
-// Replaces the first `n` - 1 entries of U by the first `n` entries of the row of k U_(k-1). It goes from the last to the
-// first, so that each is made of an entry that is not replaced yet.
-fn replace_by_slopes(line: &Line, n: usize, rows: &mut [RowModel; ENTRIES])
-    requires few { n ≤ 32 }
-    requires rows { AreRows (n - 1) rows.old }
-    requires entries { AreEntriesBefore Second line.now (n - 1) rows.old }
-    ensures rows { AreSumRows n rows.new }
-    ensures entries { AreEntriesSlope line.now n rows.new }
-{
     for i in 0..n {
         let k = n - 1 - i;
         rows[k] = slope_entry(line, rows, k);

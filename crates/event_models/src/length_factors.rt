@@ -38,17 +38,7 @@ impl LengthFactors {
     pub fn keep_for(&mut self, quantity: Quantity, seconds: i64)
         requires long { pos 1 ≤ℤ seconds }
     {
-        match quantity {
-            Quantity::Position => (),
-            Quantity::Velocity => self.keep(seconds),
-        }
-    }
-
-    // Keeps the factor of a length, unless it is kept already.
-    fn keep(&mut self, seconds: i64)
-        requires long { pos 1 ≤ℤ seconds }
-    {
-        if self.kept_factor(seconds).is_none() {
+        if quantity == Quantity::Velocity && self.kept_factor(seconds).is_none() {
             self.factors[self.next] = factor_with_length(seconds);
             self.next = (self.next + 1) % KEPT_FACTORS;
         }
@@ -70,21 +60,12 @@ impl LengthFactors {
         ensures { IfSome result (IsFactor (unsigned_abs seconds)) }
     {
         for place in 0..KEPT_FACTORS {
-            if let Some(factor) = factor_if_of_length(&self.factors[place], seconds) {
-                return Some(factor);
+            match self.factors[place] {
+                Some(kept) if kept.seconds == seconds => return Some(kept.factor),
+                _ => (),
             }
         }
         None
-    }
-}
-
-// Returns a factor that is kept, if there is one and it is that of a length.
-fn factor_if_of_length(kept: &Option<LengthFactor>, seconds: i64) -> Option<Model>
-    ensures { IfSome result (IsFactor (unsigned_abs seconds)) }
-{
-    match kept {
-        Some(kept) if kept.seconds == seconds => Some(kept.factor),
-        _ => None,
     }
 }
 

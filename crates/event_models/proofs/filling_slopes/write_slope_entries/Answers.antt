@@ -4,7 +4,7 @@ use Rattle.event_models.specs.declared.rows.Kind.TheVariants.{Second}
 use Rattle.event_models.specs.Rows.{IsEntry, IsRow, IsSumRow, no_row}
 use Rattle.event_models.specs.Slopes.{IsEntrySlope}
 use Rattle.event_models.proofs.Entries.{before_stay, one_before}
-use Rattle.event_models.proofs.filling_slopes.replace_by_slopes.Goals as goal
+use Rattle.event_models.proofs.filling_slopes.write_slope_entries.Goals as goal
 
 pub loop-i-preserved : goal.loop-i-preserved
 loop-i-preserved c =

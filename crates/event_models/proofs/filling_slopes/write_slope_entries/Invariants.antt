@@ -2,7 +2,7 @@ use Rattle.std.proofs.Common.{◌≡◌, ℕ, ◌-◌, ◌<◌, ◌≤◌, lengt
 use Rattle.event_models.specs.declared.rows.Kind.TheVariants.{Second}
 use Rattle.event_models.specs.Rows.{AreEntriesBefore, AreRows, IsSumRow, no_row}
 use Rattle.event_models.specs.Slopes.{IsEntrySlope}
-use Rattle.event_models.proofs.filling_slopes.replace_by_slopes.Given as goal
+use Rattle.event_models.proofs.filling_slopes.write_slope_entries.Given as goal
 
 abbrev pub invariant-loop-i : goal.invariant-loop-i
 invariant-loop-i l = record {

@@ -1,7 +1,7 @@
 use Rattle.std.proofs.Common.{rules, ◌≡◌, ◌∙◌, ap, sym, subst, unsigned_abs, FitsSigned, to_z, w64}
 use Rattle.std.proofs.lemmas.Int.{to_z-of_z}
 use Rattle.event_models.specs.Factors.{IsFactor}
-use Rattle.event_models.proofs.length_factors.factor_if_of_length.Goals as goal
+use Rattle.event_models.proofs.length_factors.LengthFactors.kept_factor.Goals as goal
 
 pub returns-in-Some : goal.returns-in-Some
 returns-in-Some c =

@@ -1,7 +1,7 @@
 // The text about an ephemeris, which `check` prints. Calls that append fail only if memory runs out.
 ghost use Rattle.std.specs.Prelude.{◌≡◌, ◌<◌, ◌++◌, None, IfOk, OnOk, string_bytes};
 ghost use Rattle.spec_ephemeris.specs.Ephemeris.{end_of};
-ghost use Rattle.spec_output.specs.Summary.{column_line, column_lines, column_name, ephemeris_line, line_if_present, name_of_column, sizes_of, span_of, summary};
+ghost use Rattle.spec_output.specs.Summary.{column_line, column_lines, column_name, ephemeris_line, line_if_present, name_of_column, sizes_of, summary};
 ghost use Rattle.spec_times.specs.Calendar.{time_text};
 ghost use Rattle.spec_times.specs.TimeWords.{IsTime};
 
@@ -27,27 +27,17 @@ pub fn summary(alloc: Global, ephemeris: &Ephemeris) -> Result<Vec<u8>, Memory>
     Ok(text.into_bytes())
 }
 
-// Appends the first line of a summary: start and end of the ephemeris as calendar texts, and its sizes. The only error
-// is out of memory.
+// Appends the first line of a summary: start and end of an ephemeris that counts seconds, as calendar texts, and its
+// sizes. The only error is out of memory.
 fn add_ephemeris_line(text: &mut String, ephemeris: &Ephemeris) -> Result<(), AllocError>
     requires start { IsTime ephemeris.now.start }
     requires end { IsTime (end_of ephemeris.now) }
     ensures { OnOk result (string_bytes text.new
         ≡ string_bytes text.old ++ ephemeris_line ephemeris.now) }
 {
-    add_span(text, ephemeris)?;
-    add_sizes(text, ephemeris)
-}
-
-// Appends the start and the end of an ephemeris that counts seconds, as calendar texts. The only error is out of
-// memory.
-fn add_span(text: &mut String, ephemeris: &Ephemeris) -> Result<(), AllocError>
-    requires start { IsTime ephemeris.now.start }
-    requires end { IsTime (end_of ephemeris.now) }
-    ensures { OnOk result (string_bytes text.new ≡ string_bytes text.old ++ span_of ephemeris.now) }
-{
     add_named_time(text, "CHECK start ", ephemeris.start())?;
-    add_named_time(text, " end ", ephemeris.end())
+    add_named_time(text, " end ", ephemeris.end())?;
+    add_sizes(text, ephemeris)
 }
 
 // Appends a name, and the calendar text of a time in seconds since J2000 in TDB. The only error is out of memory.

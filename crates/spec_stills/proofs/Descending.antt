@@ -26,8 +26,8 @@ no_test c p e = rw e refl
 not_before : (t u : ℤ) → int_lt t u ≡ false → u ≤ℤ t
 not_before t u e = grind (arith, ints)
 
-pub lt_so : (t u : ℤ) → int_lt t u ≡ true → t <ℤ u
-lt_so t u e = grind (arith, ints)
+before : (t u : ℤ) → int_lt t u ≡ true → t <ℤ u
+before t u e = grind (arith, ints)
 
 module _ (s : Search) (is : IsSearch s) (at n : Node) (valid : IsValid (rules s) at) where
   -- a clear one
@@ -51,7 +51,7 @@ module _ (s : Search) (is : IsSearch s) (at n : Node) (valid : IsValid (rules s)
         let left = (parts s at).0 in
         let right = (parts s at).1 in
         let meet = cut.cuts.meet in
-        let earlier = lt_so n.a left.b e in
+        let earlier = before n.a left.b e in
         ap (list_any (clears n)) (leaves_split (rules s) sound at valid split)
         ∙ cleared_left n inside (leaves (rules s) left) (leaves (rules s) right) right.a right.b (leaves_cover (rules s) sound right cut.right) (omega (arith, ints, earlier, meet))
     by false e =

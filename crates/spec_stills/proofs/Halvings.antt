@@ -13,7 +13,6 @@ use Rattle.spec_trees.specs.Cuts.{cut_of, is_wide}
 use Rattle.spec_trees.specs.Tree.{IsValid, leaves, mark_of, width}
 use Rattle.spec_trees.proofs.Covering.{leaves_cover}
 use Rattle.spec_trees.proofs.Leaves.{leaves_settled, leaves_split}
-use Rattle.spec_sets.proofs.Members.{le_so}
 use Rattle.spec_events.specs.Soundness.{findings_of}
 use Rattle.spec_events.specs.Verdict.{Criteria, Findings, is_clear, is_one, is_split, turn_to, verdict}
 use Rattle.spec_searches.specs.Found.{rules}
@@ -223,11 +222,14 @@ module _ (s : Search) (x : StillSpan) where
       let deep = leb-true (n.depth + x.halvings) s.depth tests.1 in
       let fewer = no_more_halvings x.widest (width n) x.halvings in
       record {
-        from = le_so x.from n.a ends.0;
-        upto = le_so n.b x.upto ends.1;
+        from = no_later x.from n.a ends.0;
+        upto = no_later n.b x.upto ends.1;
         narrow = omega (arith, narrow, same);
         deep = omega (arith, deep, fewer);
       }
+    where
+      no_later : (t u : ℤ) → int_le t u ≡ true → t ≤ℤ u
+      no_later t u e = grind (arith, ints)
 
   pub served_is_clear : (n : Node) → IsSearch s → IsStill s x → IsValid (rules s) n → serves s x n ≡ true → IsClearBlock (min (2 ^ halvings_of x n) (width n)) (leaves (rules s) n)
   served_is_clear n is still valid e =

@@ -18,7 +18,6 @@ use Rattle.spec_trees.proofs.Covering.{leaves_cover}
 use Rattle.spec_trees.proofs.Leaves.{leaves_settled, leaves_split, no_mark, parts_width, some_width}
 use Rattle.spec_trees.proofs.Placing.{covers_forward}
 use Rattle.spec_sets.specs.Signs.{sign_among, sign_in}
-pub use Rattle.spec_sets.proofs.Members.{le_so}
 use Rattle.spec_searches.specs.Found.{rules}
 use Rattle.spec_searches.specs.Search.{Search, IsSearch, parts, verdict_of}
 use Rattle.spec_searches.proofs.Parts.{rules_are_sound}
@@ -63,6 +62,9 @@ chosen false x y z same = same refl
 
 after : (t u : ℤ) → int_le t u ≡ false → u <ℤ t
 after t u e = grind (arith, ints)
+
+no_later : (t u : ℤ) → int_le t u ≡ true → t ≤ℤ u
+no_later t u e = grind (arith, ints)
 
 module _ (p : ℤ → Sign) where
   -- up to where the first of two lists ends
@@ -109,7 +111,7 @@ module _ (p : ℤ → Sign) where
   both_told : (ls ms us vs : List Leaf) (a b : ℤ) → Covers a ls b → Covers a us b → a <ℤ b → (t : ℤ) → (t ≤ℤ b → sign_among p ls t ≡ sign_among p us t)
       → sign_among p ms t ≡ sign_among p vs t → (here : Bool) → int_le t b ≡ here → sign_among p (ls ++ ms) t ≡ sign_among p (us ++ vs) t
   both_told ls ms us vs a b cover other some t left right true here =
-      let upto = le_so t b here in
+      let upto = no_later t b here in
       early ls ms a b cover some t upto ∙ left upto ∙ sym (early us vs a b other some t upto)
   both_told ls ms us vs a b cover other some t left right false here =
       let past = after t b here in
@@ -121,7 +123,7 @@ record HasOneSign (s : Search) (n : Node) : Type 0 where
   signs : (t : ℤ) → n.a ≤ℤ t → t ≤ℤ n.b → sign_at s t ≡ sign
 
 lies_between : (x : StillSpan) (n : Node) → lies_in x n ≡ true → (x.from ≤ℤ n.a) × (n.b ≤ℤ x.upto)
-lies_between x n lies = let both = and_parts (int_le x.from n.a) (int_le n.b x.upto) lies in (le_so x.from n.a both.0, le_so n.b x.upto both.1)
+lies_between x n lies = let both = and_parts (int_le x.from n.a) (int_le n.b x.upto) lies in (no_later x.from n.a both.0, no_later n.b x.upto both.1)
 
 served_sign : (s : Search) (n : Node) (xs : List StillSpan) → All (IsStill s) xs → is_served s xs n ≡ true → HasOneSign s n
 served_sign s n [] stills served = absurd (false≢true served)

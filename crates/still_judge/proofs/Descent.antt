@@ -10,15 +10,18 @@ use Rattle.spec_searches.specs.Found.{rules}
 use Rattle.spec_searches.specs.Search.{Search, IsSearch, parts, verdict_of}
 use Rattle.spec_searches.proofs.Parts.{rules_are_sound}
 use Rattle.spec_stills.specs.Settled.{is_cleared, part_with}
-use Rattle.spec_stills.proofs.Descending.{at_split, lt_so}
-use Rattle.spec_stills.proofs.ServedTrees.{le_so}
+use Rattle.spec_stills.proofs.Descending.{at_split}
 use Rattle.still_judge.specs.Below.{IsBelow, holds_begin}
+use Rattle.still_judge.proofs.Cleared.{no_later}
 
 before : (t u : ℤ) → t <ℤ u → int_lt t u ≡ true
 before t u e = grind (arith, ints)
 
 not_before : (t u : ℤ) → u ≤ℤ t → int_lt t u ≡ false
 not_before t u e = grind (arith, ints)
+
+earlier : (t u : ℤ) → int_lt t u ≡ true → t <ℤ u
+earlier t u e = grind (arith, ints)
 
 pub itself : (s : Search) (at : Node) → IsBelow s at at
 itself s at = record {
@@ -41,7 +44,7 @@ further s at m low above below = record {
 pub told : (s : Search) (at low n : Node) → IsBelow s at low → n.a <ℤ n.b → holds_begin low n ≡ true → is_cleared s at n ≡ is_cleared s low n
 told s at low n below inside begins =
     let both = and_parts (int_le low.a n.a) (int_lt n.a low.b) begins in
-    below.same n inside (le_so low.a n.a both.0) (lt_so n.a low.b both.1)
+    below.same n inside (no_later low.a n.a both.0) (earlier n.a low.b both.1)
 
 module _ (s : Search) (is : IsSearch s) (at n : Node) (valid : IsValid (rules s) at) (split : verdict_of s at ≡ V.Split) where
   cut : IsCut (rules s) at

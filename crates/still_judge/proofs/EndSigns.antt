@@ -24,10 +24,10 @@ use Rattle.spec_bounds.proofs.Guards.{IsCertified, all_certified, none_refuted, 
 use Rattle.spec_bounds.proofs.Limits.{verdict_by_limits}
 use Rattle.spec_bounds.proofs.Staged.{found_at, sound_at, stages_of}
 use Rattle.spec_bounds.proofs.Turns.{turnless_by_ends}
-use Rattle.spec_stills.proofs.ServedTrees.{le_so}
 use Rattle.spec_stills.proofs.Sound.{wide_above}
 use Rattle.event_judge.proofs.UnitNodes.{is_no_wider}
 use Rattle.still_judge.specs.EndSigns.{AreCertifiedAt, AreCertifiedIn, HasEndSigns}
+use Rattle.still_judge.proofs.Cleared.{no_later}
 
 -- ---- plain tests
 -- what is wider than the width is not narrow
@@ -72,8 +72,8 @@ unit_is_one false turnless wide refuted none narrow differs certified over one l
 pub certified_in : (s : Search) (n : Node) (read t : ℤ) (times : List ℤ) (place : ℕ) (from upto : ℤ) → read ≡ t → from ≡ n.a → upto ≡ n.b
     → int_le from read ≡ true → int_le read upto ≡ true → t ≡ get_or times place t → place < length times → All (AreCertifiedAt s) times → AreCertifiedIn s n read
 certified_in s n read t times place from upto same first last after before there within certified = record {
-  from = subst (λ (x : ℤ). x ≤ℤ read) first (le_so from read after);
-  upto = subst (λ (x : ℤ). read ≤ℤ x) last (le_so read upto before);
+  from = subst (λ (x : ℤ). x ≤ℤ read) first (no_later from read after);
+  upto = subst (λ (x : ℤ). read ≤ℤ x) last (no_later read upto before);
   certified = subst (AreCertifiedAt s) (sym there ∙ sym same) (certified place t within);
 }
 

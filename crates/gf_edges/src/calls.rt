@@ -1,5 +1,5 @@
 // The calls of an object in memory, of which listed ones fail.
-ghost use Rattle.std.specs.Prelude.{◌≡◌, ◌↔◌, IsErr};
+ghost use Rattle.std.specs.Prelude.{◌≡◌, ◌↔◌, IsErr, OnErr, OnOk};
 ghost use Rattle.gf_edges.specs.Edges.{raised};
 ghost use Rattle.gf_edges.specs.States.{IsToFail, RisesWhere};
 
@@ -35,6 +35,10 @@ impl Calls {
         ensures fails { IsErr result ↔ IsToFail self.old.failing.items self.old.made }
         ensures made { self.new.made ≡ raised self.old.made }
         ensures faults { RisesWhere (IsErr result) self.old.faults self.new.faults }
+        ensures listed { OnErr result (IsToFail self.old.failing.items self.old.made) }
+        ensures other { OnOk result (IsToFail self.old.failing.items self.old.made → ⊥) }
+        ensures counts { RisesWhere (IsToFail self.old.failing.items self.old.made)
+            self.old.faults self.new.faults }
         ensures failing { self.new.failing ≡ self.old.failing }
     {
         self.made = self.made.saturating_add(1);

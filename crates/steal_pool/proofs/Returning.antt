@@ -23,6 +23,7 @@ use Rattle.std.specs.Global.{Global}
 use Rattle.steal_pool.specs.declared.finishing.FinishError.{FinishError}
 use Rattle.steal_pool.specs.declared.finishing.FinishError.TheVariants.{TooMany, Memory}
 use Rattle.steal_pool.specs.declared.seat.PoolError.{PoolError}
+use Rattle.steal_pool.specs.declared.seat.PoolError.TheVariants.{TooMany as TooManyLeaves, Memory as OutOfMemory}
 use Rattle.steal_pool.specs.Pools.{AllBegin, Begins, ComeBack, IfTooMany, IsLeftOver, IsRefused, entered_in}
 use Rattle.steal_pool.specs.Runs.{AreAll, AreFree, AreSeatsOf, EnteredOnce, HaveEntered, IsOverfull, IsSeatAt}
 use Rattle.steal_pool.specs.Histories.{IsTooMany}
@@ -199,3 +200,6 @@ pub when_full : (P : Type 0) (r : Result (Vec LedgerSeat Global) FinishError) �
 when_full P (Ok v) o p = absurd o
 when_full P (Err (TooMany es leaf)) o p = p
 when_full P (Err Memory) o p = absurd o
+
+pub not_too_many : (P : Type 0) (x : Result Book PoolError) → x ≡ Err OutOfMemory → x ≡ Err TooManyLeaves → P
+not_too_many P x memory full = absurd (cc)

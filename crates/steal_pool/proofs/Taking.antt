@@ -1,10 +1,11 @@
 -- What holds for a seat once it took a node, or found none.
-use Rattle.std.proofs.Common.{◌≡◌, inl, inr, Option, Some, None, MatchOption, IfSome, ap, subst}
+use Rattle.std.proofs.Common.{◌≡◌, inl, inr, [], Option, Some, None, MatchOption, IfSome, ap, subst, ◌∙◌}
 use Rattle.spec_trees.specs.declared.tree.Node.{Node}
 use Rattle.spec_trees.specs.Tree.{Rules}
 use Rattle.spec_pool.specs.declared.ledger.SeatHistory.{SeatHistory}
 use Rattle.spec_pool.specs.Accounts.{Account}
-use Rattle.steal_pool.specs.Workers.{Holder, Takes, TakesInOrder, IsReopened, FindsNone}
+use Rattle.steal_pool.specs.Rule.{IsUsedUp}
+use Rattle.steal_pool.specs.Workers.{Holder, Takes, TakesInOrder, TakesOther, IsReopened, FindsNone, after_empty_pop}
 use Rattle.steal_pool.specs.Seats.{IsLike, account_of, Gets, ways}
 use Rattle.steal_pool.proofs.Accounts.{gets, takes_ways}
 use Rattle.steal_pool.proofs.Acting.{Worked, none_works, takes_works}
@@ -36,3 +37,8 @@ reopened_none w u v (inr (filled, used, e)) f = subst (λ (x : Holder). FindsNon
 pub reopened_taken : (r : Option Node) (w u v : Holder) → IsReopened w u → MatchOption r (FindsNone u v) (λ n. TakesInOrder n u v) → Taken r w v
 reopened_taken None w u v o f = reopened_none w u v o f
 reopened_taken (Some n) w u v o t = reopened_takes n w u v o t
+
+-- ---- the other deques, once its own stack and deque gave nothing
+pub in_order_taken : (r : Option Node) (w u m v : Holder) → (w.kept ≡ []) × (u ≡ w) → IsUsedUp u.own.view × (m ≡ after_empty_pop u) → MatchOption r (v ≡ m) (λ n. TakesOther n m v) → MatchOption r (FindsNone w v) (λ n. TakesInOrder n w v)
+in_order_taken None w u m v a b e = (a.0, subst (λ (x : Holder). IsUsedUp x.own.view) a.1 b.0, e ∙ (b.1 ∙ ap after_empty_pop a.1))
+in_order_taken (Some n) w u m v a b e = inr (inr (a.0, subst (λ (x : Holder). IsUsedUp x.own.view) a.1 b.0, subst (λ (x : Holder). TakesOther n x v) (b.1 ∙ ap after_empty_pop a.1) e))

@@ -1,12 +1,36 @@
 use Rattle.std.proofs.Common.{◌≡◌, List, length, sym, subst, ap, ◌∙◌}
-use Rattle.std.specs.List.{AllZip}
+use Rattle.std.specs.List.{AllByRecursion, AllZip}
 use Rattle.std.proofs.lemmas.List.{with_items_is}
-use Rattle.steal_pool.specs.Seats.{Seat}
+use Rattle.steal_pool.specs.Seats.{IsLeft, Seat}
 use Rattle.steal_pool.specs.Closing.{Ended, Leaves, worst_stop}
-use Rattle.steal_pool.specs.Pools.{right_of}
+use Rattle.steal_pool.specs.Pools.{AreLinked, HasRoom, right_of}
 use Rattle.steal_pool.proofs.Listing.{map_length}
 use Rattle.steal_pool.proofs.Outcomes.{all_back, back, free, if_ok, if_too_many, left_over, memory, out_of_memory, refused, rounds, worst_is}
 use Rattle.steal_pool.proofs.finishing.finish.Goals as goal
+
+pub end_work-requires-clause-linked : goal.end_work-requires-clause-linked
+end_work-requires-clause-linked g c κs within = subst AreLinked (sym c.as_mut_slice.ensures.value) c.requires.linked
+
+pub end_work-requires-clause-left : goal.end_work-requires-clause-left
+end_work-requires-clause-left g c κs within = subst (AllByRecursion (IsLeft g.N.Naming.rules)) (sym c.as_mut_slice.ensures.value) c.requires.left
+
+pub returns-in_default : goal.returns-in_default
+returns-in_default g c = record {
+  back = tt;
+  free = tt;
+  leaves = λ root a. tt;
+  rounds = λ root sound valid a counted. tt;
+  too_many = tt;
+  memory = tt;
+  worst = tt;
+  out_of_memory = λ room e.
+    let d : Ended g.N.Naming.rules c.args.seats.items c.end_work.new.seats = subst (λ (xs : List Seat). Ended g.N.Naming.rules xs c.end_work.new.seats) c.as_mut_slice.ensures.value c.end_work.ensures in
+    let items = with_items_is c.args.seats c.end_work.new.seats (map_length right_of c.args.seats.items c.end_work.new.seats d.rights ∙ sym c.args.seats.ok.0) in
+    let no = c.in_default.ensures.room (subst HasRoom (sym items) (d.room room)) in
+    absurd (cc);
+  refused = tt;
+  left_over = λ root a. tt;
+}
 
 pub returns : goal.returns
 returns g c =

@@ -1,7 +1,7 @@
-use Rattle.std.proofs.Common.{ℕ, ap, sym, ◌∙◌, subst}
+use Rattle.std.proofs.Common.{ℕ, ap, sym, refl, ◌∙◌, subst}
 use Rattle.spec_pool.specs.declared.ledger.LedgerTerms.{LedgerTerms}
 use Rattle.span_ledger.specs.Seats.{terms}
-use Rattle.steal_pool.proofs.Returning.{count_named, ended_full, ended_ok, leaves_ok, when_ended, when_full}
+use Rattle.steal_pool.proofs.Returning.{count_named, ended_full, ended_ok, leaves_ok, not_too_many, when_ended, when_full}
 use Rattle.steal_pool.specs.Histories.{HasFilled, HasFinished, HaveComeTo}
 use Rattle.steal_pool.proofs.Outcomes.{if_ok, if_too_many}
 use Rattle.steal_pool.proofs.Within.{named_sound, named_valid}
@@ -9,6 +9,26 @@ use Rattle.steal_pool.proofs.running.run_by_naming.Goals as goal
 
 pub book_or_error-requires-clause-sound : goal.book_or_error-requires-clause-sound
 book_or_error-requires-clause-sound g c = named_sound g.N.Naming.rules (g.J.Judge.rules c.args.judge.now) c.args.root c.requires.rules.0 c.requires.rules.1 c.rules_are_sound.ensures
+
+pub returns-in_default : goal.returns-in_default
+returns-in_default g c = record {
+  root = tt;
+  leaves = tt;
+  few = tt;
+  too_many = not_too_many _ _ refl;
+  finished = tt;
+  filled = not_too_many _ _ refl;
+}
+
+pub returns-in_default-make_and_work : goal.returns-in_default-make_and_work
+returns-in_default-make_and_work g c = record {
+  root = tt;
+  leaves = tt;
+  few = tt;
+  too_many = not_too_many _ _ refl;
+  finished = tt;
+  filled = not_too_many _ _ refl;
+}
 
 pub book_or_error-requires-clause-ok : goal.book_or_error-requires-clause-ok
 book_or_error-requires-clause-ok g c =

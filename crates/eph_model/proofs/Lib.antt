@@ -7,3 +7,4 @@ pub mod StoreLists
 pub mod Times
 pub mod Small
 mod QuickPairs
+mod GridTimes

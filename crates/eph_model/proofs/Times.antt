@@ -18,6 +18,11 @@ in_ticks_passed s x n tick p q e f short few =
     let fits : FitsSigned w64 (s *ℤ pos tick) = fits_signed_mul w64 s (pos tick) (2 ^ 38) MAX_TICK short few (omega arith) in
     rw (product_passed s (pos tick) x n p q e f) (to_z-of_z w64 (s *ℤ pos tick) fits)
 
+pub ticks_fit : (s x n : ℤ) (tick : ℕ) → FitsSigned w64 x → FitsSigned w64 n → x ≡ s → n ≡ pos tick
+    → unsigned_abs s ≤ 2 ^ 38 → tick ≤ MAX_TICK
+    → FitsSigned w64 (to_z w64 (of_z w64 x) *ℤ to_z w64 (of_z w64 n))
+ticks_fit s x n tick p q e f short few = rw (product_passed s (pos tick) x n p q e f) (fits_signed_mul w64 s (pos tick) (2 ^ 38) MAX_TICK short few (omega arith))
+
 -- the end of the last block
 times_fit : (start seconds : ℤ) (blocks : ℕ) → blocks ≤ MAX_BLOCKS → SHORTEST_BLOCK ≤ℤ seconds → seconds ≤ℤ LONGEST_TICKS → IsStart start
     → FitsSigned w64 (pos blocks *ℤ seconds) × FitsSigned w64 (start +ℤ (pos blocks *ℤ seconds)) × FitsSigned w64 seconds × FitsSigned w64 start

@@ -1,5 +1,5 @@
 // A block that was begun, after the blocks before it.
-ghost use Rattle.std.specs.Prelude.{◌≡◌, ◌<◌, ◌≤◌, ◌++◌, [], ◌∷◌, IfOk, List, Ok, Some, length, ℕ};
+ghost use Rattle.std.specs.Prelude.{◌≡◌, ◌<◌, ◌≤◌, ◌++◌, [], ◌∷◌, IfOk, List, Ok, OnErr, OnOk, Some, length, ℕ};
 ghost use Rattle.spec_text.specs.declared.decimals.Decimal.{Decimal};
 ghost use Rattle.spec_intervals.specs.Interval.{IsDistance};
 ghost use Rattle.spec_ephemeris.specs.Header.{IsHeader};
@@ -8,7 +8,7 @@ ghost use Rattle.spec_text.specs.Reading.{reading};
 ghost use Rattle.spec_files.specs.BlockRules.{is_too_large};
 ghost use Rattle.spec_files.specs.Blocks.{no_blocks, with_numbers};
 ghost use Rattle.spec_files.specs.Read.{AreRead};
-ghost use Rattle.eph_model.specs.Stores.{IsRounded, cut_to};
+ghost use Rattle.eph_model.specs.Stores.{IsRounded, cut_to, with_number};
 ghost use Rattle.de_blocks.specs.Dates.{AreDates, AreRuled, number_in, ruled_by};
 ghost use Rattle.de_blocks.specs.Steps.{Pushes};
 
@@ -19,7 +19,9 @@ use crate::rules::{
     read_number, read_second_date,
 };
 use crate::state::Rounding;
-use eph_model::{BlockStore, Rounded, is_below_distance_limit, rounded, rounded_pair_by_guess};
+use eph_model::{
+    BlockStore, Memory, Rounded, is_below_distance_limit, rounded, rounded_pair_by_guess,
+};
 use spec_ephemeris::Header;
 use spec_files::{BrokenRule, ReadError, ruled_at};
 use spec_text::Decimal;
@@ -43,6 +45,24 @@ impl Model for OpenBlock {
     ghost view = { λ b. b.store };
 
     ghost invariant = { λ b. AreDates b.store.numbers b.dates };
+}
+
+// Adds a number to the block that was begun, with its rounded pair if pairs are made at once. The only error is out of
+// memory, after which nothing has changed.
+fn push_by(
+    store: &mut BlockStore,
+    rounding: Rounding,
+    number: Decimal,
+    rounded: Option<Rounded>,
+) -> Result<(), Memory>
+    requires { IsRounded number rounded }
+    ensures added { OnOk result (store.new ≡ with_number store.old number) }
+    ensures memory { OnErr result (store.new ≡ store.old) }
+{
+    match rounding {
+        Rounding::AtOnce => store.push(number, rounded),
+        Rounding::AtEnd => store.push_unrounded(number),
+    }
 }
 
 impl OpenBlock {
@@ -132,7 +152,7 @@ impl OpenBlock {
         ensures same { self.new.accepted ≡ self.old.accepted }
     {
         let ruled = ruled_at(line, self.check_number(number))?;
-        self.store.push(ruled.number, ruled.rounded)?;
+        push_by(&mut self.store, self.rounding, ruled.number, ruled.rounded)?;
         self.dates = ruled.dates;
         Ok(())
     }
@@ -200,8 +220,8 @@ impl OpenBlock {
         }
     }
 
-    /// Adds a coefficient that was read on this line to a block that has its two dates, with its rounded pair if pairs
-    /// are made at once. Errors: the fault of the rule that it breaks, or out of memory.
+    /// Adds a coefficient that was read on this line to a block that has its two dates, with its rounded pair unless the
+    /// numbers before it lack theirs. Errors: the fault of the rule that it breaks, or out of memory.
     #[inline(always)]
     pub fn push_coefficient(&mut self, line: u32, number: Decimal) -> Result<(), ReadError>
         requires few { length self.old.numbers < self.old.accepted.header.ncoeff }
@@ -210,9 +230,10 @@ impl OpenBlock {
             → Pushes self.old.accepted self.old.numbers line word result self.new.numbers }
         ensures same { self.new.accepted ≡ self.old.accepted }
     {
-        match self.rounding {
-            Rounding::AtOnce => self.round_coefficient(line, number),
-            Rounding::AtEnd => self.check_coefficient_alone(line, number),
+        if self.store.lacks_pairs() {
+            self.check_coefficient_alone(line, number)
+        } else {
+            self.round_coefficient(line, number)
         }
     }
 

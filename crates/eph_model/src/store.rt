@@ -83,6 +83,12 @@ impl BlockStore {
         self.numbers.len() - self.whole_block_number_count()
     }
 
+    /// Tells whether a number lacks its pair, so that `push` keeps none. No contract speaks of pairs that are kept.
+    #[inline(always)]
+    pub fn lacks_pairs(&self) -> bool {
+        self.pairs.len() < self.numbers.len()
+    }
+
     /// Adds a number, a Julian date or a coefficient in km, to the block that was started, without its pair, for which
     /// there is room then. After `Memory` nothing has changed.
     #[inline(always)]

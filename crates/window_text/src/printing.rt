@@ -79,18 +79,8 @@ pub(crate) fn add_time(text: &mut String, time: i64) -> Result<(), AllocError>
     requires { IsTime time }
     ensures { OnOk result (string_bytes text.new ≡ string_bytes text.old ++ time_text time) }
 {
-    add_date_and_time(text, date_of_time(time), seconds_after_midnight(time))
-}
-
-// Appends a date, and a time of day that is given in seconds after midnight. The only error is out of memory.
-fn add_date_and_time(text: &mut String, date: Date, clock: u32) -> Result<(), AllocError>
-    requires { clock < 86_400 }
-    ensures { OnOk result (string_bytes text.new
-        ≡ string_bytes text.old
-        ++ (date_text date.year date.month date.day ++ clock_text clock)) }
-{
-    add_date(text, date)?;
-    add_time_of_day(text, clock)
+    add_date(text, date_of_time(time))?;
+    add_time_of_day(text, seconds_after_midnight(time))
 }
 
 // Returns the date, in the proleptic Gregorian calendar, of the day that a time in seconds since J2000 in TDB lies in.

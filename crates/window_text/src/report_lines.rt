@@ -1,7 +1,7 @@
 // The texts about a search of an ephemeris: reports, and the two lines of a generated text.
 ghost use Rattle.std.specs.Prelude.{◌≡◌, ◌++◌, All, IfOk, OnOk, string_bytes};
 ghost use Rattle.spec_ephemeris.specs.Ticks.{IsTick};
-ghost use Rattle.spec_output.specs.Report.{HasTimes, generation, generation_line, report, request_line, verification};
+ghost use Rattle.spec_output.specs.Report.{HasTimes, generation, report, request_line, verification};
 ghost use Rattle.spec_times.specs.Ticks.{IsTimeIn};
 
 use crate::Memory;
@@ -55,8 +55,8 @@ fn add_report(
     add_end_line(text, windows)
 }
 
-/// Returns the two lines that `gen` prints: the blocks, the seed and the bytes of the generated text, and the counts of
-/// the windows that a search found in it. The only error is out of memory.
+/// Returns the two lines that `gen` prints: the layout, the blocks, the seed and the bytes of the generated text, and the
+/// counts of the windows that a search found in it. The only error is out of memory.
 pub fn generation(
     alloc: Global,
     blocks: u32,
@@ -67,7 +67,9 @@ pub fn generation(
     ensures { IfOk result (λ text. text.items ≡ generation blocks seed bytes windows.now) }
 {
     let mut text = String::new(alloc);
-    add_generation_line(&mut text, blocks, seed, bytes)?;
+    add_number(&mut text, "GEN 405 blocks ", blocks as u64)?;
+    add_number(&mut text, " seed ", seed)?;
+    add_last_number(&mut text, " bytes ", bytes as u64, "\n")?;
     add_end_line(&mut text, windows)?;
     Ok(text.into_bytes())
 }
@@ -126,20 +128,4 @@ fn add_request_line(text: &mut String, find: &FindAsk, from: i64, to: i64) -> Re
         from,
         to,
     )
-}
-
-// Appends the line about a generated text: its layout, number of blocks, seed and number of bytes. The only error is
-// out of memory.
-fn add_generation_line(
-    text: &mut String,
-    blocks: u32,
-    seed: u64,
-    bytes: usize,
-) -> Result<(), AllocError>
-    ensures { OnOk result (string_bytes text.new
-        ≡ string_bytes text.old ++ generation_line blocks seed bytes) }
-{
-    add_number(text, "GEN 405 blocks ", blocks as u64)?;
-    add_number(text, " seed ", seed)?;
-    add_last_number(text, " bytes ", bytes as u64, "\n")
 }

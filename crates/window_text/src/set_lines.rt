@@ -2,7 +2,7 @@
 // memory runs out.
 ghost use Rattle.std.specs.Prelude.{◌≡◌, ◌++◌, All, IfOk, OnOk, string_bytes};
 ghost use Rattle.spec_ephemeris.specs.Ticks.{IsTick};
-ghost use Rattle.spec_output.specs.Report.{AreTimesIn, set_end_line, set_lines, set_report, span_lines};
+ghost use Rattle.spec_output.specs.Report.{AreTimesIn, set_lines, set_report, span_lines};
 ghost use Rattle.spec_times.specs.Ticks.{IsTimeIn};
 
 use crate::Memory;
@@ -63,19 +63,6 @@ fn add_set_lines(
 {
     add_span_lines(text, "S ", tick, surely)?;
     add_span_lines(text, "P ", tick, perhaps)?;
-    add_set_end_line(text, surely, perhaps)
-}
-
-// Appends the last line of the report of a set: the number of spans in which its relation surely holds, and of those in
-// which it perhaps holds. The only error is out of memory.
-fn add_set_end_line(
-    text: &mut String,
-    surely: &[(i64, i64)],
-    perhaps: &[(i64, i64)],
-) -> Result<(), AllocError>
-    ensures { OnOk result (string_bytes text.new
-        ≡ string_bytes text.old ++ set_end_line surely.now perhaps.now) }
-{
     add_number(text, "END sure ", surely.len() as u64)?;
     add_last_number(text, " possible ", perhaps.len() as u64, "\n")
 }

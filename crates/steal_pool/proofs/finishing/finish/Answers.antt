@@ -24,10 +24,10 @@ returns-in_default g c = record {
   memory = tt;
   worst = tt;
   out_of_memory = λ room e.
-    let d : Ended g.N.Naming.rules c.args.seats.items c.end_work.new.seats = subst (λ (xs : List Seat). Ended g.N.Naming.rules xs c.end_work.new.seats) c.as_mut_slice.ensures.value c.end_work.ensures in
-    let items = with_items_is c.args.seats c.end_work.new.seats (map_length right_of c.args.seats.items c.end_work.new.seats d.rights ∙ sym c.args.seats.ok.0) in
-    let no = c.in_default.ensures.room (subst HasRoom (sym items) (d.room room)) in
-    absurd (cc);
+      let d : Ended g.N.Naming.rules c.args.seats.items c.end_work.new.seats = subst (λ (xs : List Seat). Ended g.N.Naming.rules xs c.end_work.new.seats) c.as_mut_slice.ensures.value c.end_work.ensures in
+      let items = with_items_is c.args.seats c.end_work.new.seats (map_length right_of c.args.seats.items c.end_work.new.seats d.rights ∙ sym c.args.seats.ok.0) in
+      let no = c.in_default.ensures.room (subst HasRoom (sym items) (d.room room)) in
+      absurd (cc);
   refused = tt;
   left_over = λ root a. tt;
 }

@@ -1,4 +1,4 @@
-use Rattle.std.proofs.Common.{◌≡◌, Bool, true, false, List, [], sym, subst, arith}
+use Rattle.std.proofs.Common.{Bool, true, false, List, [], sym, subst, arith}
 use Rattle.std.specs.Prelude.{All, if◌then◌else◌}
 use Rattle.spec_searches.specs.Search.{Search}
 use Rattle.spec_stills.specs.declared.still.StillSpan.{StillSpan}

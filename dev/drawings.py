@@ -59,7 +59,7 @@ BOXES = (
     Box(1, 4, "de_blocks", ("lines 17 to 26: one block", "of 26 numbers")),
     Box(1, 5, "eph_model", ("the checked ephemeris:", "x = 1382400 T1, -43200 to 2721600")),
     Box(0, 2, "event_kinds event_expr", ("request: a function f and conditions", "f = x of Mercury, no condition")),
-    Box(0, 5, "cheby_laws cheby_enclose cheby_difference body_states", ("times: intervals of x, and of its steps",)),
+    Box(0, 5, "cheby_laws cheby_enclose cheby_difference granule_values body_states", ("times: intervals of x, and of its steps",)),
     Box(0, 6, "gf_query event_judge", ("a node: clear, one, split, undecided",)),
     Box(1, 6, "event_models still_spans", ("spans in which f keeps one sign",)),
     Box(0, 7, "gf_search steal_pool span_ledger", ("the root: its leaves,", "each entered once into one book")),
@@ -91,7 +91,7 @@ STILLS = (
     Box(1, 1, "still_judge/src/beginning.rt", ("find: Does a span begin in it?", "yes: it is split, unjudged")),
     Box(
         1, 2, "still_judge/src/end_signs.rt",
-        ("find, set, cert: Do spans tell its ends' signs?", "these may tell: clear, one event, split"),
+        ("Do spans tell the signs at its ends?", "these may tell: clear, one event, split"),
     ),
     Box(1, 3, "event_judge", ("any other: the verdict of the search",)),
     Box(1, 4, "gf_search/src/book.rt", ("the leaves in order",)),

@@ -59,7 +59,10 @@ BOXES = (
     Box(1, 4, "de_blocks", ("lines 17 to 26: one block", "of 26 numbers")),
     Box(1, 5, "eph_model", ("the checked ephemeris:", "x = 1382400 T1, -43200 to 2721600")),
     Box(0, 2, "event_kinds event_expr", ("request: a function f and conditions", "f = x of Mercury, no condition")),
-    Box(0, 5, "cheby_laws cheby_enclose cheby_difference granule_values body_states", ("times: intervals of x, and of its steps",)),
+    Box(
+        0, 5, "cheby_laws cheby_enclose cheby_difference granule_values body_states",
+        ("times: intervals of x, and of its steps",),
+    ),
     Box(0, 6, "gf_query event_judge", ("a node: clear, one, split, undecided",)),
     Box(1, 6, "event_models still_spans", ("spans in which f keeps one sign",)),
     Box(0, 7, "gf_search steal_pool span_ledger", ("the root: its leaves,", "each entered once into one book")),
